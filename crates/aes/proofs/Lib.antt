@@ -1,0 +1,6 @@
+pub mod Rule
+pub mod Tables
+pub mod Laws
+pub mod Expansion
+pub mod Lengths
+pub mod Vectors

@@ -1,0 +1,15 @@
+-- `aes::b0` meets its contract. Assumes nothing.
+use Prim.Native.Nat.{_/_}
+use native.Mathlib.Omega.{arith}
+use lib.Bits.{and-mask, mask-lt}
+use Rattle.aes.proofs.b0.Statement.{statement}
+use Rattle.aes.proofs.b0.Tie as tie
+
+cast-result : tie.Need-cast-result
+cast-result c = omega (arith, mask-lt (c .args .x) 8)
+
+returns : tie.Need-returns
+returns c = and-mask (c .args .x) 8
+
+pub b0-spec : {M : Type 1} → statement M
+b0-spec = tie.close (tie.spec cast-result returns)

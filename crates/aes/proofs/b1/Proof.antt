@@ -1,0 +1,15 @@
+-- `aes::b1` meets its contract. Assumes nothing.
+use Prim.Native.Nat.{_/_}
+use native.Mathlib.Omega.{arith}
+use lib.Bits.{and-mask, mask-lt}
+use Rattle.aes.proofs.b1.Statement.{statement}
+use Rattle.aes.proofs.b1.Tie as tie
+
+cast-result : tie.Need-cast-result
+cast-result c = omega (arith, mask-lt (c .args .x / 256) 8)
+
+returns : tie.Need-returns
+returns c = and-mask (c .args .x / 256) 8
+
+pub b1-spec : {M : Type 1} → statement M
+b1-spec = tie.close (tie.spec cast-result returns)

@@ -1,0 +1,125 @@
+use borrow.Author.Needs.{needs}
+use mathlib.Core.Path.{_≡_, refl, _∙_}
+use lib.ListN.{length}
+use Rattle.aes.specs.Words.{stateOf, bytesOf}
+use Rattle.aes.proofs.Laws.{begins, whole}
+use Rattle.aes.proofs.load.Statement.{statement}
+use Rattle.aes.proofs.load.Tie as tie
+use Rattle.aes.proofs.load.Reads as reads
+use Rattle.aes.proofs.load.Lts as lts
+use Rattle.aes.proofs.word.Reads as word-reads
+
+-- src/lib.rt:1353:17
+array-read-word : tie.Need-array-read-word
+array-read-word c = search needs
+
+-- src/lib.rt:1353:23
+array-read-word-2 : tie.Need-array-read-word-2
+array-read-word-2 c = search needs
+
+-- src/lib.rt:1353:29
+array-read-word-3 : tie.Need-array-read-word-3
+array-read-word-3 c = search needs
+
+-- src/lib.rt:1353:35
+array-read-word-4 : tie.Need-array-read-word-4
+array-read-word-4 c = search needs
+
+-- src/lib.rt:1353:12
+word-requires : tie.Need-word-requires
+word-requires c κs = search needs
+
+-- src/lib.rt:1354:17
+array-read-word-5 : tie.Need-array-read-word-5
+array-read-word-5 c = search needs
+
+-- src/lib.rt:1354:23
+array-read-word-6 : tie.Need-array-read-word-6
+array-read-word-6 c = search needs
+
+-- src/lib.rt:1354:29
+array-read-word-7 : tie.Need-array-read-word-7
+array-read-word-7 c = search needs
+
+-- src/lib.rt:1354:35
+array-read-word-8 : tie.Need-array-read-word-8
+array-read-word-8 c = search needs
+
+-- src/lib.rt:1354:12
+word-requires-2 : tie.Need-word-requires-2
+word-requires-2 c κs = search needs
+
+-- src/lib.rt:1355:17
+array-read-word-9 : tie.Need-array-read-word-9
+array-read-word-9 c = search needs
+
+-- src/lib.rt:1355:23
+array-read-word-10 : tie.Need-array-read-word-10
+array-read-word-10 c = search needs
+
+-- src/lib.rt:1355:29
+array-read-word-11 : tie.Need-array-read-word-11
+array-read-word-11 c = search needs
+
+-- src/lib.rt:1355:36
+array-read-word-12 : tie.Need-array-read-word-12
+array-read-word-12 c = search needs
+
+-- src/lib.rt:1355:12
+word-requires-3 : tie.Need-word-requires-3
+word-requires-3 c κs = search needs
+
+-- src/lib.rt:1356:17
+array-read-word-13 : tie.Need-array-read-word-13
+array-read-word-13 c = search needs
+
+-- src/lib.rt:1356:24
+array-read-word-14 : tie.Need-array-read-word-14
+array-read-word-14 c = search needs
+
+-- src/lib.rt:1356:31
+array-read-word-15 : tie.Need-array-read-word-15
+array-read-word-15 c = search needs
+
+-- src/lib.rt:1356:38
+array-read-word-16 : tie.Need-array-read-word-16
+array-read-word-16 c = search needs
+
+-- src/lib.rt:1356:12
+word-requires-4 : tie.Need-word-requires-4
+word-requires-4 c κs = search needs
+
+-- src/lib.rt:1349:1
+returns : tie.Need-returns
+unfolding stateOf bytesOf
+returns c =
+    let k = c .before .before .before .before .args .t1 in
+    let h : length k ≡ 16 = search needs in
+    begins (c .before .before .before .word .ensures) (begins (c .before .before .word2 .ensures) (begins (c .before .word3 .ensures) (begins (c .word4 .ensures) refl)))
+    ∙ whole 16 k h
+
+pub load-spec : {M : Type 1} → statement M
+load-spec =
+    tie.close
+    (tie.spec
+    array-read-word
+    array-read-word-2
+    array-read-word-3
+    array-read-word-4
+    word-requires
+    array-read-word-5
+    array-read-word-6
+    array-read-word-7
+    array-read-word-8
+    word-requires-2
+    array-read-word-9
+    array-read-word-10
+    array-read-word-11
+    array-read-word-12
+    word-requires-3
+    array-read-word-13
+    array-read-word-14
+    array-read-word-15
+    array-read-word-16
+    word-requires-4
+    returns)
