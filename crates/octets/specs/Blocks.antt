@@ -1,0 +1,19 @@
+-- A byte string as blocks of 16 bytes, of which the last is filled with zeros.
+-- Assumes nothing.
+use mathlib.Core.List.{List, [], _∷_}
+use Prim.Native.Nat.{ℕ, zero, suc, _+_, _*_, _/_}
+use lib.ListN.{length, drop}
+
+-- the first n bytes, with zeros where xs has ended
+unfoldable pub zeroPadded : ℕ → List ℕ → List ℕ
+zeroPadded zero xs = []
+zeroPadded (suc n) [] = 0 ∷ zeroPadded n []
+zeroPadded (suc n) (x ∷ xs) = x ∷ zeroPadded n xs
+
+-- block number n, counted from 0
+abbrev pub block : List ℕ → ℕ → List ℕ
+block xs n = zeroPadded 16 (drop (16 * n) xs)
+
+-- how many blocks a length takes
+abbrev pub blockCount : ℕ → ℕ
+blockCount len = (len + 15) / 16

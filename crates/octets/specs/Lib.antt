@@ -1,0 +1,4 @@
+pub mod Numbers
+pub mod Xor
+pub mod Same
+pub mod Blocks
