@@ -17,3 +17,12 @@ block xs n = zeroPadded 16 (drop (16 * n) xs)
 -- how many blocks a length takes
 abbrev pub blockCount : ℕ → ℕ
 blockCount len = (len + 15) / 16
+
+-- xs filled with zeros to whole blocks
+abbrev pub padded : List ℕ → List ℕ
+padded xs = zeroPadded (16 * blockCount (length xs)) xs
+
+-- a chain from y over the first n blocks of xs: f takes each block in
+unfoldable pub overBlocks : {A : Type 0} → (A → List ℕ → A) → A → List ℕ → ℕ → A
+overBlocks f y xs zero = y
+overBlocks f y xs (suc n) = f (overBlocks f y xs n) (block xs n)
