@@ -1,0 +1,119 @@
+-- Right because each turn xors the next block of the text with the next output block, and the end what is left.
+-- Assumes nothing.
+use mathlib.Core.Path.{_≡_, refl, sym, ap, _∙_}
+use mathlib.Core.List.{List, _++_}
+use Prim.Native.Nat.{ℕ, _+_, _-_, _*_, _≤_}
+use native.Mathlib.Omega.{arith}
+use lib.ListN.{length}
+use lib.Seq.{paste, paste-zero}
+use denote.Ref.{now}
+use borrow.Author.Needs.{needs}
+use Rattle.octets.specs.Numbers.{toBigEndian}
+use Rattle.octets.proofs.Paste.{paste-all}
+use Rattle.ctr.specs.BlockCipher.{blockCipher}
+use Rattle.ctr.specs.Ctr.{ctr, counterBlocks}
+use Rattle.ctr.proofs.CtrLaws.{length-ctr, ctr-turn, ctr-end}
+use Rattle.ctr.proofs.apply.Statement.{statement}
+use Rattle.ctr.proofs.apply.Tie as tie
+
+abbrev Inv-loop : tie.InvT-loop
+Inv-loop t keys prefix first text₀ i₀ n₀ text i n =
+    (text ≡ paste text₀ 0 (ctr (blockCipher keys) (counterBlocks prefix first) text₀) i) × (i ≡ 16 * (n - first)) × (first ≤ n) × (i ≤ length text₀)
+    × (length text ≡ length text₀)
+
+abbrev μ-loop : tie.MeasureT-loop
+μ-loop t keys prefix first text₀ i₀ n₀ text i n = length text₀ - i
+
+loop-holds : tie.Need-loop-holds Inv-loop μ-loop
+loop-holds c =
+    let a = c .before .args in
+    (paste-zero (now (a .text)) 0 (ctr (blockCipher (now (a .keys))) (counterBlocks (a .prefix) (a .first)) (now (a .text))), omega arith, omega arith, omega arith, refl)
+
+sub-loop : tie.Need-sub-loop Inv-loop μ-loop
+sub-loop c = omega arith
+
+key-stream-requires : tie.Need-key-stream-requires Inv-loop μ-loop
+key-stream-requires c κs = search needs
+
+xor-at-requires : tie.Need-xor-at-requires Inv-loop μ-loop
+xor-at-requires c κs = omega arith
+
+add-i : tie.Need-add-i Inv-loop μ-loop
+add-i c = omega arith
+
+add-n : tie.Need-add-n Inv-loop μ-loop
+add-n c = omega arith
+
+loop-less : tie.Need-loop-less Inv-loop μ-loop
+loop-less c = omega arith
+
+loop-again : tie.Need-loop-again Inv-loop μ-loop
+loop-again c =
+    let x = c .before .before .xor-at in
+    let g = c .before .before .before .key-stream in
+    let k = c .before .before .before .before .before .before in
+    let a = k .before .before .args in
+    let e : k .loop .n ≡ a .first + (k .loop .n - a .first) = omega arith in (
+      ctr-turn (blockCipher (now (a .keys))) (counterBlocks (a .prefix) (a .first)) (now (a .text)) (k .loop .i) (k .loop .n - a .first) 16 (g .result) (k .loop .text) _
+          (omega arith) (omega arith) (omega arith)
+          (g .ensures ∙ ap (λ (n : ℕ). blockCipher (now (a .keys)) (a .prefix ++ toBigEndian 4 n)) e) (k .loop .inv .0) (x .ensures),
+      omega arith,
+      omega arith,
+      omega arith,
+      x .kept .0 ∙ k .loop .inv .4,
+    )
+
+sub-xor-at : tie.Need-sub-xor-at Inv-loop μ-loop
+sub-xor-at c = omega arith
+
+key-stream-requires-2 : tie.Need-key-stream-requires-2 Inv-loop μ-loop
+key-stream-requires-2 c κs = search needs
+
+xor-at-requires-2 : tie.Need-xor-at-requires-2 Inv-loop μ-loop
+xor-at-requires-2 c κs = omega arith
+
+same-length : tie.Need-same-length Inv-loop μ-loop
+same-length c = omega arith
+
+returns : tie.Need-returns Inv-loop μ-loop
+returns c =
+    let x = c .before .before .xor-at2 in
+    let g = c .before .before .before .key-stream2 in
+    let k = c .before .before .before .before .before .before .before in
+    let a = k .before .before .args in
+    let e : k .loop .n ≡ a .first + (k .loop .n - a .first) = omega arith in
+    ctr-end (blockCipher (now (a .keys))) (counterBlocks (a .prefix) (a .first)) (now (a .text)) (k .loop .i + (length (k .loop .text) - k .loop .i)) _ (omega arith)
+    (ctr-turn (blockCipher (now (a .keys))) (counterBlocks (a .prefix) (a .first)) (now (a .text)) (k .loop .i) (k .loop .n - a .first) _ (g .result) (k .loop .text) _
+    (omega arith) (omega arith) (omega arith)
+    (g .ensures ∙ ap (λ (n : ℕ). blockCipher (now (a .keys)) (a .prefix ++ toBigEndian 4 n)) e) (k .loop .inv .0) (x .ensures))
+
+same-length-2 : tie.Need-same-length-2 Inv-loop μ-loop
+same-length-2 c = omega arith
+
+returns-2 : tie.Need-returns-2 Inv-loop μ-loop
+returns-2 c =
+    let k = c .before .before in
+    let a = k .before .before .args in
+    ctr-end (blockCipher (now (a .keys))) (counterBlocks (a .prefix) (a .first)) (now (a .text)) (k .loop .i) (k .loop .text) (omega arith) (k .loop .inv .0)
+
+pub apply-spec : {M : Type 1} → statement M
+apply-spec =
+    tie.close
+    (tie.spec
+    Inv-loop
+    μ-loop
+    loop-holds
+    sub-loop
+    key-stream-requires
+    xor-at-requires
+    add-i
+    add-n
+    loop-less
+    loop-again
+    sub-xor-at
+    key-stream-requires-2
+    xor-at-requires-2
+    same-length
+    returns
+    same-length-2
+    returns-2)

@@ -1,0 +1,61 @@
+// Counter mode (SP 800-38A, 6.5) with AES, in place.
+ghost use mathlib.Core.Path.{_≡_};
+ghost use mathlib.Core.List.{_++_};
+ghost use Prim.Native.Nat.{_+_, _<_, _^_};
+ghost use lib.ListN.{length};
+ghost use Rattle.aes.specs.Words.{SubMixTable};
+ghost use Rattle.octets.specs.Numbers.{toBigEndian};
+ghost use Rattle.ctr.specs.BlockCipher.{blockCipher};
+ghost use Rattle.ctr.specs.Ctr.{ctr, counterBlocks};
+
+// The counter block of number n.
+pub fn counter_block(prefix: [u8; 12], n: u32) -> [u8; 16]
+    ensures { λ r. ⌜ r ≡ prefix ++ toBigEndian 4 n ⌝ }
+{
+    let p = prefix;
+    let c = octets::big_endian::u32_bytes(n);
+    [
+        p[0],
+        p[1],
+        p[2],
+        p[3],
+        p[4],
+        p[5],
+        p[6],
+        p[7],
+        p[8],
+        p[9],
+        p[10],
+        p[11],
+        c[0],
+        c[1],
+        c[2],
+        c[3],
+    ]
+}
+
+// The output block of counter n.
+fn key_stream(t: &[u32; 256], keys: &[[u8; 16]], prefix: [u8; 12], n: u32) -> [u8; 16]
+    requires { ⌜ (1 < length (now keys)) × SubMixTable (now t) ⌝ }
+    ensures { λ r. ⌜ r ≡ blockCipher (now (keys .entry)) (prefix ++ toBigEndian 4 n) ⌝ }
+{
+    aes::encrypt_with(t, keys, counter_block(prefix, n))
+}
+
+// Xors the text with the key stream whose first counter is `first`.
+pub fn apply(t: &[u32; 256], keys: &[[u8; 16]], prefix: [u8; 12], first: u32, text: &mut [u8])
+    requires { ⌜ (1 < length (now keys)) × SubMixTable (now t) × (first + length (now text) < 2 ^ 32) ⌝ }
+    ensures { λ _. ⌜ now (text .exit) ≡ ctr (blockCipher (now (keys .entry))) (counterBlocks prefix first) (now (text .entry)) ⌝ }
+{
+    let mut i: usize = 0;
+    let mut n = first;
+    // Whole blocks: the count of 16 is fixed, so that a block is xored at once.
+    while 16 <= text.len() - i {
+        octets::runs::xor_at(text, i, 16, key_stream(t, keys, prefix, n));
+        i += 16;
+        n += 1;
+    }
+    if i < text.len() {
+        octets::runs::xor_at(text, i, text.len() - i, key_stream(t, keys, prefix, n));
+    }
+}
