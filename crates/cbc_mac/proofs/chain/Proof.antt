@@ -1,0 +1,92 @@
+-- Right because each turn takes the next whole block into the chain, and the end the short one.
+-- Assumes nothing.
+use mathlib.Core.Path.{_≡_, refl, ap, _∙_}
+use mathlib.Core.List.{List}
+use Prim.Native.Nat.{ℕ, _+_, _-_, _*_, _≤_, min}
+use native.Mathlib.Omega.{arith}
+use borrow.Author.Needs.{needs}
+use denote.Ref.{now}
+use lib.ListN.{length, drop}
+use Rattle.octets.specs.Blocks.{blockCount, overBlocks, zeroPadded}
+use Rattle.octets.specs.Xor.{xor}
+use Rattle.octets.proofs.BlockLaws.{AtBlock, over-turn}
+use Rattle.ctr.specs.BlockCipher.{blockCipher}
+use Rattle.cbc_mac.specs.CbcMac.{cbcMac}
+use Rattle.cbc_mac.proofs.chain.Statement.{statement}
+use Rattle.cbc_mac.proofs.chain.Tie as tie
+
+abbrev Inv-loop : tie.InvT-loop
+Inv-loop t keys s z₀ at₀ z at = (z ≡ cbcMac (blockCipher keys) z₀ s (blockCount at)) × (at ≡ 16 * blockCount at) × (at ≤ length s)
+
+abbrev μ-loop : tie.MeasureT-loop
+μ-loop t keys s z₀ at₀ z at = length s - at
+
+loop-holds : tie.Need-loop-holds Inv-loop μ-loop
+unfolding overBlocks
+loop-holds c = (refl, omega arith, omega arith)
+
+sub-loop : tie.Need-sub-loop Inv-loop μ-loop
+sub-loop c = omega arith
+
+block-at-requires : tie.Need-block-at-requires Inv-loop μ-loop
+block-at-requires c κs = omega arith
+
+next-requires : tie.Need-next-requires Inv-loop μ-loop
+next-requires c κs = search needs
+
+add-at : tie.Need-add-at Inv-loop μ-loop
+add-at c = omega arith
+
+loop-less : tie.Need-loop-less Inv-loop μ-loop
+loop-less c = omega arith
+
+loop-again : tie.Need-loop-again Inv-loop μ-loop
+loop-again c =
+    let k = c .before .before .before in
+    let a = k .before .before .args in (
+      over-turn (λ y x. blockCipher (now (a .keys)) (xor y x)) (a .y) (now (a .s)) (k .loop .at) 16 (k .loop .z) _ (omega arith, omega arith) (omega arith) (omega arith) (k .loop .inv .0)
+          (c .next .ensures ∙ ap (λ (x : List ℕ). blockCipher (now (a .keys)) (xor (k .loop .z) x)) (c .before .block-at .ensures)),
+      omega arith,
+      omega arith,
+    )
+
+block-at-requires-2 : tie.Need-block-at-requires-2 Inv-loop μ-loop
+block-at-requires-2 c κs = omega arith
+
+next-requires-2 : tie.Need-next-requires-2 Inv-loop μ-loop
+next-requires-2 c κs = search needs
+
+returns : tie.Need-returns Inv-loop μ-loop
+returns c =
+    let k = c .before .before .before .before in
+    let a = k .before .before .args in
+    let m : ℕ = length (now (a .s)) - k .loop .at in
+    let e : k .loop .at + m ≡ length (now (a .s)) = omega arith in
+    over-turn (λ y x. blockCipher (now (a .keys)) (xor y x)) (a .y) (now (a .s)) (k .loop .at) m (k .loop .z) _ (omega arith, omega arith) (omega arith) (omega arith) (k .loop .inv .0)
+    (c .next2 .ensures ∙ ap (λ (x : List ℕ). blockCipher (now (a .keys)) (xor (k .loop .z) x)) (c .before .block-at2 .ensures))
+    ∙ ap (λ (n : ℕ). cbcMac (blockCipher (now (a .keys))) (a .y) (now (a .s)) (blockCount n)) e
+
+returns-2 : tie.Need-returns-2 Inv-loop μ-loop
+returns-2 c =
+    let k = c .before .before in
+    let a = k .before .before .args in
+    let e : k .loop .at ≡ length (now (a .s)) = omega arith in
+    k .loop .inv .0 ∙ ap (λ (n : ℕ). cbcMac (blockCipher (now (a .keys))) (a .y) (now (a .s)) (blockCount n)) e
+
+pub chain-spec : {M : Type 1} → statement M
+chain-spec =
+    tie.close
+    (tie.spec
+    Inv-loop
+    μ-loop
+    loop-holds
+    sub-loop
+    block-at-requires
+    next-requires
+    add-at
+    loop-less
+    loop-again
+    block-at-requires-2
+    next-requires-2
+    returns
+    returns-2)
