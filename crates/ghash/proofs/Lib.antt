@@ -1,0 +1,5 @@
+pub mod FieldLaws
+pub mod WordLaws
+pub mod ByteLaws
+pub mod GhashLaws
+pub mod Vectors

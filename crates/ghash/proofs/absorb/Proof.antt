@@ -1,0 +1,18 @@
+-- Right because the prepared key holds H itself.
+use mathlib.Core.Path.{ap₂, _∙_}
+use borrow.Author.Needs.{needs}
+use Rattle.ghash.specs.Field.{mul}
+use Rattle.ghash.proofs.absorb.Statement.{statement}
+use Rattle.ghash.proofs.absorb.Tie as tie
+
+add-requires : tie.Need-add-requires
+add-requires c κs = search needs
+
+multiply-requires : tie.Need-multiply-requires
+multiply-requires c κs = search needs
+
+returns : tie.Need-returns
+returns c = λ h p. c .multiply .ensures ∙ ap₂ mul (c .before .add .ensures) (p .element)
+
+pub absorb-spec : {M : Type 1} → statement M
+absorb-spec = tie.close (tie.spec add-requires multiply-requires returns)

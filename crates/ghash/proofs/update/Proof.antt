@@ -1,0 +1,81 @@
+-- Right because each turn takes the next block in, and the last one may be short.
+use mathlib.Core.Path.{_≡_, refl, ap, _∙_}
+use Prim.Native.Nat.{ℕ, _-_}
+use native.Mathlib.Omega.{arith}
+use lib.Bits.{bitXor}
+use lib.ListN.{length}
+use borrow.Author.Needs.{needs}
+use denote.Ref.{now}
+use Rattle.octets.specs.Blocks.{blockCount, overBlocks}
+use Rattle.octets.proofs.BlockLaws.{AtBlock, block-turn, over-turn}
+use Rattle.ghash.specs.Field.{mul}
+use Rattle.ghash.specs.Ghash.{step, ghashFrom}
+use Rattle.ghash.specs.Elements.{elementOf, Prepared}
+use Rattle.ghash.proofs.update.Statement.{statement}
+use Rattle.ghash.proofs.update.Tie as tie
+
+abbrev Inv-loop : tie.InvT-loop
+Inv-loop k s z₀ at₀ z at =
+    ((h : ℕ) → Prepared k h → elementOf z ≡ overBlocks (step h) (elementOf z₀) s (blockCount at)) × AtBlock at (length s)
+
+abbrev μ-loop : tie.MeasureT-loop
+μ-loop k s z₀ at₀ z at = length s - at
+
+loop-holds : tie.Need-loop-holds Inv-loop μ-loop
+unfolding overBlocks
+loop-holds c = ((λ h p. refl), omega arith)
+
+block-requires : tie.Need-block-requires Inv-loop μ-loop
+block-requires c κs = omega arith
+
+absorb-requires : tie.Need-absorb-requires Inv-loop μ-loop
+absorb-requires c κs = search needs
+
+sub-at-most-16 : tie.Need-sub-at-most-16 Inv-loop μ-loop
+sub-at-most-16 c = omega arith
+
+at-most-16-requires : tie.Need-at-most-16-requires Inv-loop μ-loop
+at-most-16-requires c κs = search needs
+
+add-at : tie.Need-add-at Inv-loop μ-loop
+add-at c = omega arith
+
+loop-less : tie.Need-loop-less Inv-loop μ-loop
+loop-less c = omega arith
+
+loop-again : tie.Need-loop-again Inv-loop μ-loop
+loop-again c =
+    let t = c .before .before .before in
+    let k = t .before in
+    let a = k .before .before .args in
+    let s = now (a .s) in
+    let m = c .at-most-16 in (
+      (λ h p.
+          over-turn (step h) (elementOf (a .y)) s (k .loop .at) (m .result) (elementOf (k .loop .z)) _ (k .loop .inv .1) (t .loop-test .taken) (m .ensures) (k .loop .inv .0 h p)
+          (c .before .absorb .ensures h p ∙ ap (λ (x : ℕ). mul (bitXor (elementOf (k .loop .z)) x) h) (c .before .before .block .ensures))),
+      block-turn (k .loop .at) (length s) (m .result) (k .loop .inv .1) (t .loop-test .taken) (m .ensures),
+    )
+
+returns : tie.Need-returns Inv-loop μ-loop
+unfolding ghashFrom
+returns c =
+    let k = c .before in
+    let a = k .before .before .args in
+    let e : k .loop .at ≡ length (now (a .s)) = omega arith in
+    λ h p. k .loop .inv .0 h p ∙ ap (λ (n : ℕ). overBlocks (step h) (elementOf (a .y)) (now (a .s)) (blockCount n)) e
+
+pub update-spec : {M : Type 1} → statement M
+update-spec =
+    tie.close
+    (tie.spec
+    Inv-loop
+    μ-loop
+    loop-holds
+    block-requires
+    absorb-requires
+    sub-at-most-16
+    at-most-16-requires
+    add-at
+    loop-less
+    loop-again
+    returns)
