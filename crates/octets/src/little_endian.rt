@@ -34,20 +34,22 @@ pub fn u64_at(b: &[u8], at: usize) -> u64
     (u32_at(b, at) as u64) + 4294967296 * (u32_at(b, at + 4) as u64)
 }
 
+// x as four bytes.
 pub fn u32_bytes(x: u32) -> [u8; 4]
     ensures { λ r. ⌜ r ≡ toLittleEndian 4 x ⌝ }
 {
-    let x1 = x / 256;
-    let x2 = x1 / 256;
-    let x3 = x2 / 256;
+    let a = x / 256;
+    let b = a / 256;
+    let c = b / 256;
     [
         (x % 256) as u8,
-        (x1 % 256) as u8,
-        (x2 % 256) as u8,
-        (x3 % 256) as u8,
+        (a % 256) as u8,
+        (b % 256) as u8,
+        (c % 256) as u8,
     ]
 }
 
+// x as eight bytes.
 pub fn u64_bytes(x: u64) -> [u8; 8]
     ensures { λ r. ⌜ r ≡ toLittleEndian 8 x ⌝ }
 {

@@ -1,28 +1,23 @@
+-- Right because the divisions by 256 are those of `toBigEndian`, so both sides compute to the same list.
+-- Assumes nothing.
 use mathlib.Core.Path.{refl}
 use Rattle.octets.specs.Numbers.{toBigEndian}
 use borrow.Author.Needs.{needs}
 use Rattle.octets.proofs.big_endian.u32_bytes.Statement.{statement}
 use Rattle.octets.proofs.big_endian.u32_bytes.Tie as tie
-use Rattle.octets.proofs.big_endian.u32_bytes.Reads as reads
-use Rattle.octets.proofs.big_endian.u32_bytes.Lts as lts
 
--- src/big_endian.rt:36:9
 cast-t6 : tie.Need-cast-t6
 cast-t6 c = search needs
 
--- src/big_endian.rt:37:9
 cast-t8 : tie.Need-cast-t8
 cast-t8 c = search needs
 
--- src/big_endian.rt:38:9
 cast-t10 : tie.Need-cast-t10
 cast-t10 c = search needs
 
--- src/big_endian.rt:39:9
 cast-t12 : tie.Need-cast-t12
 cast-t12 c = search needs
 
--- src/big_endian.rt:29:1
 returns : tie.Need-returns
 unfolding toBigEndian
 returns c = refl

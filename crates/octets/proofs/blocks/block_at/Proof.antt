@@ -1,14 +1,13 @@
-use mathlib.Core.Path.{_≡_, refl, sym, ap, ap₂, _∙_}
-use mathlib.Core.List.{List, [], _∷_, _++_}
-use Prim.Native.Nat.{ℕ, zero, suc, _+_, _*_, _-_, _/_, _%_, _^_, _<_, _≤_, min}
+-- Right because after m turns the first m zeros are replaced by what s has, and what is left of the zeros fills the block (zeros-replaced).
+-- Assumes nothing.
+use mathlib.Core.Path.{_≡_, refl, sym, ap, _∙_}
+use mathlib.Core.List.{List, _++_}
+use Prim.Native.Nat.{ℕ, _+_, _-_, _≤_}
 use native.Mathlib.Omega.{arith}
-use lib.ListN.{length, getD, set, take, drop, length-set}
+use lib.ListN.{length, take, drop, length-set, replicate, length-drop}
 use lib.Seq.{paste, getD-drop}
 use denote.Ref.{now}
-use lib.Bits.{bitXor}
-use borrow.Author.Needs.{needs}
 use Rattle.octets.proofs.BlockLaws.{zeros-replaced}
-use lib.ListN.{replicate, length-drop}
 use Rattle.octets.proofs.Paste.{paste-turn}
 use Rattle.octets.proofs.blocks.block_at.Statement.{statement}
 use Rattle.octets.proofs.blocks.block_at.Tie as tie

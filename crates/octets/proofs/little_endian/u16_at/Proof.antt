@@ -1,40 +1,31 @@
+-- Right because `littleEndian` of two bytes is the first and 256 times the second (little2-is).
+-- Assumes nothing.
 use Rattle.octets.proofs.NumberLaws.{little2-is}
 use borrow.Author.Needs.{needs}
 use Rattle.octets.proofs.little_endian.u16_at.Statement.{statement}
 use Rattle.octets.proofs.little_endian.u16_at.Tie as tie
-use Rattle.octets.proofs.little_endian.u16_at.Reads as reads
-use Rattle.octets.proofs.little_endian.u16_at.Lts as lts
-use Rattle.octets.proofs.little_endian.wide.Reads as wide-reads
 
--- src/little_endian.rt:18:10
 shared-slice-read-wide : tie.Need-shared-slice-read-wide
 shared-slice-read-wide c = search needs
 
--- src/little_endian.rt:18:5
 wide-requires : tie.Need-wide-requires
 wide-requires c κs = search needs
 
--- src/little_endian.rt:18:32
 add-wide : tie.Need-add-wide
 add-wide c = search needs
 
--- src/little_endian.rt:18:30
 shared-slice-read-wide-2 : tie.Need-shared-slice-read-wide-2
 shared-slice-read-wide-2 c = search needs
 
--- src/little_endian.rt:18:25
 wide-requires-2 : tie.Need-wide-requires-2
 wide-requires-2 c κs = search needs
 
--- src/little_endian.rt:18:19
 mul-result : tie.Need-mul-result
 mul-result c = search needs
 
--- src/little_endian.rt:18:5
 add-result : tie.Need-add-result
 add-result c = search needs
 
--- src/little_endian.rt:14:1
 returns : tie.Need-returns
 returns c = cc (little2-is (c .before .before .before .before .before .args .b .now) (c .before .before .before .before .before .args .at) (c .before .before .before .before .before .pre))
 

@@ -1,4 +1,4 @@
--- `transform::fields::put` meets its contract.
+-- Right because after j turns the first j bytes of src are pasted (paste-turn), and at the end all of them.
 -- Assumes nothing.
 use Rattle.octets.proofs.Paste.{paste-turn}
 use lib.Seq.{paste, paste-zero}

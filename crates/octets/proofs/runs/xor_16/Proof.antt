@@ -1,15 +1,16 @@
+-- Right because each turn stores the next byte of the xored block, and the byte that it reads is still a's (paste-next).
+-- Assumes nothing.
 use mathlib.Core.Path.{_≡_, refl, sym, ap, ap₂, _∙_}
-use mathlib.Core.List.{List, [], _∷_, _++_}
-use Prim.Native.Nat.{ℕ, zero, suc, _+_, _*_, _-_, _/_, _%_, _^_, _<_, _≤_, min}
+use mathlib.Core.List.{List}
+use Prim.Native.Nat.{ℕ, _+_, _-_, _≤_}
 use native.Mathlib.Omega.{arith}
-use lib.ListN.{length, getD, set, take, drop, length-set}
+use lib.ListN.{length, getD, length-set}
 use lib.Seq.{paste}
 use lib.Bits.{bitXor}
 use borrow.Author.Needs.{needs}
-use Rattle.octets.specs.Xor.{xorWith}
+use Rattle.octets.specs.Xor.{xorWith, xor}
 use Rattle.octets.proofs.XorWith.{length-xorWith, getD-xorWith}
 use Rattle.octets.proofs.Paste.{paste-next, paste-turn, paste-all}
-use Rattle.octets.specs.Xor.{xor}
 use Rattle.octets.proofs.runs.xor_16.Statement.{statement}
 use Rattle.octets.proofs.runs.xor_16.Tie as tie
 

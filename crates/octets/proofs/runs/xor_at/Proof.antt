@@ -1,15 +1,16 @@
-use mathlib.Core.Path.{_≡_, refl, sym, ap, ap₂, _∙_}
-use mathlib.Core.List.{List, [], _∷_, _++_}
-use Prim.Native.Nat.{ℕ, zero, suc, _+_, _*_, _-_, _/_, _%_, _^_, _<_, _≤_, min}
+-- Right because each turn stores the next byte of the xored string, and the byte that it reads is still as lent (paste-next).
+-- Assumes nothing.
+use mathlib.Core.Path.{_≡_, refl, sym, ap₂, _∙_}
+use mathlib.Core.List.{List}
+use Prim.Native.Nat.{ℕ, _+_, _-_, _≤_}
 use native.Mathlib.Omega.{arith}
-use lib.ListN.{length, getD, set, take, drop, length-set, length-drop}
+use lib.ListN.{length, getD, drop, length-set, length-drop}
 use lib.Seq.{paste, paste-zero, getD-drop}
 use denote.Ref.{now}
 use Rattle.octets.specs.Xor.{xorWith}
 use Rattle.octets.proofs.XorWith.{length-xorWith, getD-xorWith}
-use Rattle.octets.proofs.Paste.{paste-next, paste-turn, paste-all}
+use Rattle.octets.proofs.Paste.{paste-next, paste-turn}
 use lib.Bits.{bitXor}
-use borrow.Author.Needs.{needs}
 use Rattle.octets.proofs.runs.xor_at.Statement.{statement}
 use Rattle.octets.proofs.runs.xor_at.Tie as tie
 
