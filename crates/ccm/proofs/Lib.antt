@@ -1,0 +1,4 @@
+pub mod Laws
+pub mod Formatted
+pub mod Tag
+pub mod Opening

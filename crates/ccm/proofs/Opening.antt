@@ -1,0 +1,23 @@
+-- The two ways out of opening: the tag is right, or the key stream is applied again.
+-- Assumes nothing.
+use mathlib.Core.Bool.{Bool, true, false}
+use mathlib.Core.List.{List}
+use mathlib.Core.Path.{_≡_, ap, _∙_}
+use Prim.Native.Nat.{ℕ}
+use Rattle.octets.specs.Same.{sameBytes}
+use Rattle.ccm.specs.Ccm.{encrypt, tag, Opened}
+use Rattle.ccm.specs.General as general
+use Rattle.ccm.proofs.Laws.{encrypt-twice}
+
+module _ (E : List ℕ → List ℕ) (nonce aad received body mid u : List ℕ) (em : mid ≡ encrypt E nonce body) (eu : u ≡ tag E nonce aad mid) where
+  pub opened-right : sameBytes received u ≡ true → Opened E nonce aad received body mid true
+  unfolding general.decrypt
+  opened-right s =
+      let q : sameBytes received (tag E nonce aad (encrypt E nonce body)) ≡ true = rw (← em, ← eu) s in
+      record { right = rw q; bytes = rw q em }
+
+  pub opened-wrong : (last : List ℕ) → sameBytes received u ≡ false → last ≡ encrypt E nonce mid → Opened E nonce aad received body last false
+  unfolding general.decrypt
+  opened-wrong last s el =
+      let q : sameBytes received (tag E nonce aad (encrypt E nonce body)) ≡ false = rw (← em, ← eu) s in
+      record { right = rw q; bytes = rw q (el ∙ ap (encrypt E nonce) em ∙ encrypt-twice E 4 nonce body) }

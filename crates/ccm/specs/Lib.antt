@@ -1,0 +1,3 @@
+pub mod Formatting
+pub mod General
+pub mod Ccm

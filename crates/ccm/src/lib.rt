@@ -1,0 +1,107 @@
+// CCM (SP 800-38C) with AES, a nonce of 11 bytes, 32 bytes of associated data and a tag of 16 bytes; the text in place.
+ghost use mathlib.Core.Path.{_≡_};
+ghost use mathlib.Core.List.{_∷_};
+ghost use Prim.Native.Nat.{_<_};
+ghost use lib.ListN.{length};
+ghost use Rattle.aes.specs.Words.{SubMixTable};
+ghost use Rattle.ctr.specs.BlockCipher.{blockCipher};
+ghost use Rattle.ccm.specs.Formatting.{associated};
+ghost use Rattle.ccm.specs.Ccm.{encrypt, tag, longest, Sealed, Opened};
+
+// What the first block (A.2.1) and the counter blocks (A.3) begin with.
+fn flags_and_nonce(flags: u8, nonce: [u8; 11]) -> [u8; 12]
+    ensures { λ r. ⌜ r ≡ flags ∷ nonce ⌝ }
+{
+    let n = nonce;
+    [
+        flags,
+        n[0],
+        n[1],
+        n[2],
+        n[3],
+        n[4],
+        n[5],
+        n[6],
+        n[7],
+        n[8],
+        n[9],
+        n[10],
+    ]
+}
+
+// The associated data behind their length (A.2.2).
+fn with_length(aad: [u8; 32]) -> [u8; 34]
+    ensures { λ r. ⌜ r ≡ associated aad ⌝ }
+{
+    let mut b = [0u8; 34];
+    b[1] = 32;
+    octets::runs::copy(&mut b, 2, &aad);
+    b
+}
+
+fn tag_of(
+    t: &[u32; 256],
+    keys: &[[u8; 16]],
+    nonce: [u8; 11],
+    aad: [u8; 32],
+    text: &[u8],
+) -> [u8; 16]
+    requires { ⌜ (1 < length (now keys)) × SubMixTable (now t) × (length (now text) < longest) ⌝ }
+    ensures { λ r. ⌜ r ≡ tag (blockCipher (now (keys .entry))) nonce aad (now (text .entry)) ⌝ }
+{
+    let first = ctr::counter_block(flags_and_nonce(0x7B, nonce), text.len() as u32);
+    let associated = with_length(aad);
+    let y0 = cbc_mac::chain(t, keys, [0u8; 16], &first);
+    let y1 = cbc_mac::chain(t, keys, y0, &associated);
+    let y = cbc_mac::chain(t, keys, y1, text);
+    let s0 = aes::encrypt_with(t, keys, ctr::counter_block(flags_and_nonce(3, nonce), 0));
+    octets::runs::xor_16(y, s0)
+}
+
+fn xor_key_stream(t: &[u32; 256], keys: &[[u8; 16]], nonce: [u8; 11], text: &mut [u8])
+    requires { ⌜ (1 < length (now keys)) × SubMixTable (now t) × (length (now text) < longest) ⌝ }
+    ensures { λ _. ⌜ now (text .exit) ≡ encrypt (blockCipher (now (keys .entry))) nonce (now (text .entry)) ⌝ }
+{
+    ctr::apply(t, keys, flags_and_nonce(3, nonce), 1, text);
+}
+
+// Encrypts the text, or turns it back.
+pub fn apply(keys: &[[u8; 16]], nonce: [u8; 11], text: &mut [u8])
+    requires { ⌜ (1 < length (now keys)) × (length (now text) < longest) ⌝ }
+    ensures { λ _. ⌜ now (text .exit) ≡ encrypt (blockCipher (now (keys .entry))) nonce (now (text .entry)) ⌝ }
+{
+    let t = aes::table();
+    xor_key_stream(&t, keys, nonce, text);
+}
+
+// Encrypts the text in place, and returns the tag.
+pub fn seal(keys: &[[u8; 16]], nonce: [u8; 11], aad: [u8; 32], text: &mut [u8]) -> [u8; 16]
+    requires { ⌜ (1 < length (now keys)) × (length (now text) < longest) ⌝ }
+    ensures { λ r. ⌜ Sealed (blockCipher (now (keys .entry))) nonce aad (now (text .entry)) (now (text .exit)) r ⌝ }
+{
+    let t = aes::table();
+    let r = tag_of(&t, keys, nonce, aad, text);
+    xor_key_stream(&t, keys, nonce, text);
+    r
+}
+
+// Decrypts the text in place where the tag is right, and leaves it as it was where not.
+pub fn open(
+    keys: &[[u8; 16]],
+    nonce: [u8; 11],
+    aad: [u8; 32],
+    tag: [u8; 16],
+    text: &mut [u8],
+) -> bool
+    requires { ⌜ (1 < length (now keys)) × (length (now text) < longest) ⌝ }
+    ensures { λ r. ⌜ Opened (blockCipher (now (keys .entry))) nonce aad tag (now (text .entry)) (now (text .exit)) r ⌝ }
+{
+    let t = aes::table();
+    xor_key_stream(&t, keys, nonce, text);
+    let expected = tag_of(&t, keys, nonce, aad, text);
+    if octets::same::same_16(tag, expected) {
+        return true;
+    }
+    xor_key_stream(&t, keys, nonce, text);
+    false
+}
