@@ -6,8 +6,9 @@ use Prim.Native.Nat.{ℕ, _+_, _-_, _<_, _≤_}
 use native.Mathlib.Nat.{add-zero, add-assoc, le-of-eq}
 use native.Mathlib.Numerals.{add-one}
 use native.Mathlib.Omega.{arith}
-use lib.ListN.{length, getD, set, take, drop, replicate, drop-of-length-le, length-drop, length-replicate, replicate-append-replicate}
+use lib.ListN.{length, getD, set, take, drop, replicate, drop-of-length-le, length-take, length-drop, length-replicate, replicate-append-replicate}
 use lib.Seq.{paste, paste-suc, take-paste, drop-paste, drop-drop, getD-drop, take-length, take-add, take-all, take-at, drop-at}
+use Rattle.octets.specs.Numbers.{bytesAt}
 
 -- the element that the next turn replaces is d's
 pub paste-next : (d : List ℕ) (at : ℕ) (s l : List ℕ) (j p : ℕ) → l ≡ paste d at s j → p ≡ at + j → at ≤ length d → j ≤ length s → getD l p 0 ≡ getD d p 0
@@ -50,3 +51,12 @@ drop-replicate i j a =
 -- a part of a buffer from an offset to its end, as the code lends it
 pub part-all : (buf : List ℕ) (from : ℕ) → take (length buf - from) (drop from buf) ≡ drop from buf
 part-all buf from = take-all (length buf - from) (drop from buf) (le-of-eq (length-drop from buf))
+
+-- a part of b, copied into an array of zeros
+pub array-copied : (n : ℕ) (b : List ℕ) (at : ℕ) (r : List ℕ) → at + n ≤ length b
+    → r ≡ paste (replicate n 0) 0 (take (at + n - at) (drop at b)) (length (take (at + n - at) (drop at b))) → r ≡ bytesAt at n b
+array-copied n b at r inside e =
+    let same : at + n - at ≡ n = omega arith in
+    let l : length (bytesAt at n b) ≡ n = simp (length-take, length-drop) (omega arith) in
+    let z : length {A = ℕ} (replicate n 0) ≡ n = length-replicate n 0 in
+    e ∙ rw same (paste-all (replicate n 0) 0 (bytesAt at n b) (omega arith))

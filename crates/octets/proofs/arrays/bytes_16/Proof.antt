@@ -1,0 +1,39 @@
+-- Right because the part from `at` on fills the array of zeros whole (array-copied).
+-- Assumes nothing.
+use Rattle.octets.proofs.Paste.{array-copied}
+use borrow.Author.Needs.{needs}
+use Rattle.octets.proofs.arrays.bytes_16.Statement.{statement}
+use Rattle.octets.proofs.arrays.bytes_16.Tie as tie
+
+slice-aggregate-copy : tie.Need-slice-aggregate-copy
+slice-aggregate-copy c = search needs
+
+add-copy : tie.Need-add-copy
+add-copy c = search needs
+
+sub-copy : tie.Need-sub-copy
+sub-copy c = search needs
+
+part-copy-start : tie.Need-part-copy-start
+part-copy-start c = search needs
+
+part-copy-end : tie.Need-part-copy-end
+part-copy-end c = search needs
+
+copy-requires : tie.Need-copy-requires
+copy-requires c κs = search needs
+
+returns : tie.Need-returns
+returns c = let s = c .before .before .before .before .before in array-copied 16 (s .args .b .now) (s .args .at) _ (s .pre) (c .before .copy .ensures)
+
+pub bytes-16-spec : {M : Type 1} → statement M
+bytes-16-spec =
+    tie.close
+    (tie.spec
+    slice-aggregate-copy
+    add-copy
+    sub-copy
+    part-copy-start
+    part-copy-end
+    copy-requires
+    returns)

@@ -1,0 +1,26 @@
+// FIPS 197.
+use crate::text;
+
+// expand KEY: the round keys.
+pub fn expand(line: &[u8]) {
+    let mut key = [0u8; 16];
+    text::bytes(line, text::after_space(line, 0), &mut key);
+    let keys = aes::expand_key(key);
+    let mut r: usize = 0;
+    while r < 11 {
+        text::show_16(keys[r]);
+        r += 1;
+    }
+    text::end_line();
+}
+
+// encrypt KEY BLOCK: the block, enciphered.
+pub fn encrypt(line: &[u8]) {
+    let mut key = [0u8; 16];
+    let k = text::bytes(line, text::after_space(line, 0), &mut key);
+    let mut block = [0u8; 16];
+    text::bytes(line, k.next, &mut block);
+    let out = aes::encrypt_block(aes::expand_key(key), block);
+    text::show(&out);
+    text::end_line();
+}

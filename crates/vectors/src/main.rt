@@ -1,0 +1,24 @@
+// Published vectors of the primitives: reads lines of operations from standard input and writes a line of results for each.
+// The file `stdin` has the published inputs, and `stdout`, with which the output is compared, the published results.
+mod block_cipher;
+mod text;
+
+// The operation that a line names.
+fn run(line: &[u8]) {
+    if text::is(line, b"expand") {
+        block_cipher::expand(line);
+    } else if text::is(line, b"encrypt") {
+        block_cipher::encrypt(line);
+    }
+}
+
+fn main() {
+    let mut input = io::large_buffer();
+    let n = io::read_full(0, &mut input);
+    let mut at: usize = 0;
+    while at < n {
+        let end = text::line_end(&input[..n], at);
+        run(&input[at..end]);
+        at = end;
+    }
+}
