@@ -8,7 +8,7 @@ use lib.Dec.{T, eqb, eqb→eq}
 use lib.ListN.{length, getD}
 use Rattle.aes.specs.Cipher.{cipher, addRoundKey, state}
 use Rattle.aes.specs.KeyExpansion.{keyExpansion, roundKeys, words, keyWords, xorWord, wordOf}
-use Rattle.aes.proofs.Rule.{both, both-left, both-right}
+use Rattle.octets.proofs.Every.{both, both-left, both-right}
 
 pub length-cipher : (nr : ℕ) (w : List (List ℕ)) (s : List ℕ) → length (cipher nr w s) ≡ 16
 unfolding cipher addRoundKey state
@@ -23,7 +23,7 @@ pub length-expansion : (nk nr : ℕ) (key : List ℕ) → length (keyExpansion n
 unfolding keyExpansion
 length-expansion nk nr key = length-roundKeys _ _ _
 
--- each row has n bytes
+-- each list has n elements
 abbrev rows : ℕ → List (List ℕ) → Bool
 rows n [] = true
 rows n (r ∷ rs) = both (eqb (length r) n) (rows n rs)

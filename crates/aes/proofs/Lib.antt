@@ -1,6 +1,5 @@
-pub mod Rule
-pub mod Tables
-pub mod Laws
-pub mod Expansion
+pub mod WordLaws
+pub mod TableLaws
+pub mod ExpansionLaws
 pub mod Lengths
 pub mod Vectors

@@ -1,71 +1,73 @@
-use mathlib.Core.Path.{_≡_}
-use lib.ListN.{length}
-use Rattle.aes.proofs.Expansion.{expanded}
+-- Right because each round key is the next after the one before, and the expansion is that chain.
+use mathlib.Core.Path.{_∙_, sym}
 use borrow.Author.Needs.{needs}
-use Rattle.aes.proofs.expand_key.Statement.{statement}
+use Rattle.aes.proofs.ExpansionLaws.{expanded, link, chain-end}
 use Rattle.aes.proofs.expand_key.Tie as tie
-use Rattle.aes.proofs.expand_key.Reads as reads
-use Rattle.aes.proofs.expand_key.Lts as lts
-use Rattle.aes.proofs.next_key.Reads as next-key-reads
-use Rattle.aes.proofs.sboxes.Reads as sboxes-reads
+use Rattle.aes.proofs.expand_key.Statement.{statement}
 
--- src/lib.rt:795:13
-sboxes-requires : tie.Need-sboxes-requires
-sboxes-requires c κs = search needs
+sbox-table-requires : tie.Need-sbox-table-requires
+sbox-table-requires c κs = search needs
 
--- src/lib.rt:796:9
 next-key-requires : tie.Need-next-key-requires
 next-key-requires c κs = search needs
 
--- src/lib.rt:797:9
 next-key-requires-2 : tie.Need-next-key-requires-2
 next-key-requires-2 c κs = search needs
 
--- src/lib.rt:798:9
 next-key-requires-3 : tie.Need-next-key-requires-3
 next-key-requires-3 c κs = search needs
 
--- src/lib.rt:799:9
 next-key-requires-4 : tie.Need-next-key-requires-4
 next-key-requires-4 c κs = search needs
 
--- src/lib.rt:800:9
 next-key-requires-5 : tie.Need-next-key-requires-5
 next-key-requires-5 c κs = search needs
 
--- src/lib.rt:801:9
 next-key-requires-6 : tie.Need-next-key-requires-6
 next-key-requires-6 c κs = search needs
 
--- src/lib.rt:802:9
 next-key-requires-7 : tie.Need-next-key-requires-7
 next-key-requires-7 c κs = search needs
 
--- src/lib.rt:803:9
 next-key-requires-8 : tie.Need-next-key-requires-8
 next-key-requires-8 c κs = search needs
 
--- src/lib.rt:804:9
 next-key-requires-9 : tie.Need-next-key-requires-9
 next-key-requires-9 c κs = search needs
 
--- src/lib.rt:805:9
 next-key-requires-10 : tie.Need-next-key-requires-10
-next-key-requires-10 c κs = c .before .before .before .before .before .before .before .before .before .before .before .before .before .before .before .before .before .before .before .sboxes .ensures
+next-key-requires-10 c κs = c .before .before .before .before .before .before .before .before .before .before .before .before .before .before .before .before .before .before .before .sbox-table .ensures
 
--- src/lib.rt:792:1
 returns : tie.Need-returns
 returns c =
-    let key = c .before .before .before .before .before .before .before .before .before .before .before .before .before .before .before .before .before .before .before .before .before .args .key in
-    let g = c .before .before .before .before .before .before .before .before .before .before .before .before .before .before .before .before .before .before .before .before .before .good in
-    let h : length key ≡ 16 = search needs in
-    expanded key (c .before .before .before .before .before .before .before .before .before .before .before .before .before .before .before .before .before .before .next-key .result) (c .before .before .before .before .before .before .before .before .before .before .before .before .before .before .before .before .next-key2 .result) (c .before .before .before .before .before .before .before .before .before .before .before .before .before .before .next-key3 .result) (c .before .before .before .before .before .before .before .before .before .before .before .before .next-key4 .result) (c .before .before .before .before .before .before .before .before .before .before .next-key5 .result) (c .before .before .before .before .before .before .before .before .next-key6 .result) (c .before .before .before .before .before .before .next-key7 .result) (c .before .before .before .before .next-key8 .result) (c .before .before .next-key9 .result) (c .next-key10 .result) h (c .before .before .before .before .before .before .before .before .before .before .before .before .before .before .before .before .before .before .next-key .ensures) (c .before .before .before .before .before .before .before .before .before .before .before .before .before .before .before .before .next-key2 .ensures) (c .before .before .before .before .before .before .before .before .before .before .before .before .before .before .next-key3 .ensures) (c .before .before .before .before .before .before .before .before .before .before .before .before .next-key4 .ensures) (c .before .before .before .before .before .before .before .before .before .before .next-key5 .ensures) (c .before .before .before .before .before .before .before .before .next-key6 .ensures) (c .before .before .before .before .before .before .next-key7 .ensures) (c .before .before .before .before .next-key8 .ensures) (c .before .before .next-key9 .ensures) (c .next-key10 .ensures)
+    let c9 = c .before .before in
+    let c8 = c9 .before .before in
+    let c7 = c8 .before .before in
+    let c6 = c7 .before .before in
+    let c5 = c6 .before .before in
+    let c4 = c5 .before .before in
+    let c3 = c4 .before .before in
+    let c2 = c3 .before .before in
+    let c1 = c2 .before .before in
+    let start = c1 .before .before .before in
+    link _ _ (c1 .next-key .ensures)
+    (link _ _ (c2 .next-key2 .ensures)
+    (link _ _ (c3 .next-key3 .ensures)
+    (link _ _ (c4 .next-key4 .ensures)
+    (link _ _ (c5 .next-key5 .ensures)
+    (link _ _ (c6 .next-key6 .ensures)
+    (link _ _ (c7 .next-key7 .ensures)
+    (link _ _ (c8 .next-key8 .ensures)
+    (link _ _ (c9 .next-key9 .ensures)
+    (link _ _ (c .next-key10 .ensures)
+    (chain-end _))))))))))
+    ∙ sym (expanded (start .args .key) (start .good .0 .1 .0 .1))
 
 pub expand-key-spec : {M : Type 1} → statement M
 expand-key-spec =
     tie.close
     (tie.spec
-    sboxes-requires
+    sbox-table-requires
     next-key-requires
     next-key-requires-2
     next-key-requires-3

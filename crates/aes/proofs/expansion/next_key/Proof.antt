@@ -1,0 +1,19 @@
+-- Right because the columns of the key stand for the key.
+use borrow.Author.Needs.{needs}
+use Rattle.aes.proofs.expansion.next_key.Tie as tie
+use Rattle.aes.proofs.expansion.next_key.Statement.{statement}
+
+load-requires : tie.Need-load-requires
+load-requires c κs = search needs
+
+next-columns-requires : tie.Need-next-columns-requires
+next-columns-requires c κs = search needs
+
+store-requires : tie.Need-store-requires
+store-requires c κs = search needs
+
+returns : tie.Need-returns
+returns c = cc
+
+pub next-key-spec : {M : Type 1} → statement M
+next-key-spec = tie.close (tie.spec load-requires next-columns-requires store-requires returns)

@@ -1,0 +1,34 @@
+-- Right because column j takes its row r from the column j + r, which is SHIFTROWS.
+use mathlib.Core.Path.{refl}
+use borrow.Author.Needs.{needs}
+use Rattle.aes.specs.Cipher.{addRoundKey, shiftRows, subBytes, state}
+use Rattle.aes.specs.Words.{stateOf, bytesOf}
+use Rattle.aes.proofs.WordLaws.{begins}
+use Rattle.aes.proofs.rounds.last_round.Tie as tie
+use Rattle.aes.proofs.rounds.last_round.Statement.{statement}
+
+last-column-requires : tie.Need-last-column-requires
+last-column-requires c κs = search needs
+
+last-column-requires-2 : tie.Need-last-column-requires-2
+last-column-requires-2 c κs = search needs
+
+last-column-requires-3 : tie.Need-last-column-requires-3
+last-column-requires-3 c κs = search needs
+
+last-column-requires-4 : tie.Need-last-column-requires-4
+last-column-requires-4 c κs = search needs
+
+returns : tie.Need-returns
+unfolding stateOf bytesOf addRoundKey shiftRows subBytes state
+returns c = begins (c .before .before .before .last-column .ensures) (begins (c .before .before .last-column2 .ensures) (begins (c .before .last-column3 .ensures) (begins (c .last-column4 .ensures) refl)))
+
+pub last-round-spec : {M : Type 1} → statement M
+last-round-spec =
+    tie.close
+    (tie.spec
+    last-column-requires
+    last-column-requires-2
+    last-column-requires-3
+    last-column-requires-4
+    returns)
