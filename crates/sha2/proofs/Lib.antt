@@ -1,0 +1,7 @@
+pub mod Rotations
+pub mod Choice
+pub mod Words
+pub mod Rounds
+pub mod Blocks
+pub mod Padding
+pub mod Streaming

@@ -1,0 +1,5 @@
+pub mod Sha2
+pub mod Sha256
+pub mod Sha512
+pub mod Running
+pub mod Vectors

@@ -1,0 +1,80 @@
+-- Right because each turn copies the bytes of the next word.
+-- Assumes nothing.
+use Prim.Native.Nat.{_-_, _*_, _≤_}
+use mathlib.Core.Path.{_≡_, refl, _∙_}
+use native.Mathlib.Omega.{arith}
+use lib.ListN.{length, take}
+use Rattle.sha2.specs.Sha2.{digest}
+use Rattle.sha2.specs.Sha256.{sha256}
+use Rattle.sha2.proofs.Words.{digest-turn, digest-done}
+use borrow.Author.Needs.{needs}
+use Rattle.sha256.proofs.padding.digest.Statement.{statement}
+use Rattle.sha256.proofs.padding.digest.Tie as tie
+
+abbrev Inv-loop : tie.InvT-loop
+Inv-loop hs out₀ i₀ out i = (i ≤ 8) × (length out ≡ 32) × (take (i * 4) out ≡ digest sha256 i hs)
+
+abbrev μ-loop : tie.MeasureT-loop
+μ-loop hs out₀ i₀ out i = 8 - i
+
+loop-holds : tie.Need-loop-holds Inv-loop μ-loop
+unfolding digest
+loop-holds c = (omega arith, refl, refl)
+
+mul-u32-bytes : tie.Need-mul-u32-bytes Inv-loop μ-loop
+mul-u32-bytes c = search needs
+
+array-read-u32-bytes : tie.Need-array-read-u32-bytes Inv-loop μ-loop
+array-read-u32-bytes c = search needs
+
+u32-bytes-requires : tie.Need-u32-bytes-requires Inv-loop μ-loop
+u32-bytes-requires c κs = search needs
+
+slice-aggregate-copy : tie.Need-slice-aggregate-copy Inv-loop μ-loop
+slice-aggregate-copy c = search needs
+
+mul-copy : tie.Need-mul-copy Inv-loop μ-loop
+mul-copy c = search needs
+
+slice-aggregate-copy-2 : tie.Need-slice-aggregate-copy-2 Inv-loop μ-loop
+slice-aggregate-copy-2 c = search needs
+
+copy-requires : tie.Need-copy-requires Inv-loop μ-loop
+copy-requires c κs = omega (arith, c .before .before .u32-bytes .ok .1 .0 .1)
+
+add-i : tie.Need-add-i Inv-loop μ-loop
+add-i c = search needs
+
+loop-less : tie.Need-loop-less Inv-loop μ-loop
+loop-less c = search needs
+
+loop-again : tie.Need-loop-again Inv-loop μ-loop
+loop-again c =
+    let l = c .before .before .before .before .before .before .loop in
+    let b = c .before .before .before .before .u32-bytes in
+    let f = c .before .copy in
+    (omega arith, f .kept .0 ∙ l .inv .1, digest-turn sha256 (c .before .before .before .before .before .before .before .args .t1) (l .out) (f .last .0) (b .result) (l .i) (l .inv .2) (b .ensures) (omega arith) (f .ensures))
+
+returns : tie.Need-returns Inv-loop μ-loop
+returns c =
+    let l = c .before .loop in
+    digest-done sha256 (c .before .before .args .t1) (l .out) (l .i) 8 (l .inv .2) (omega arith) (l .inv .1)
+
+pub digest-spec : {M : Type 1} → statement M
+digest-spec =
+    tie.close
+    (tie.spec
+    Inv-loop
+    μ-loop
+    loop-holds
+    mul-u32-bytes
+    array-read-u32-bytes
+    u32-bytes-requires
+    slice-aggregate-copy
+    mul-copy
+    slice-aggregate-copy-2
+    copy-requires
+    add-i
+    loop-less
+    loop-again
+    returns)

@@ -1,0 +1,92 @@
+// SHA-512 (FIPS 180-4), of a message at once and in pieces.
+mod compression;
+mod constants;
+mod functions;
+mod padding;
+mod rounds;
+
+use compression::hash_blocks;
+use constants::initial_hash_value;
+use constants::round_constants;
+use octets::runs::copy;
+use padding::digest;
+use padding::padded;
+use padding::padded_length;
+use std::num::wrapping_add_u64;
+ghost use mathlib.Core.Path.{_≡_};
+ghost use mathlib.Core.List.{List, [], _++_};
+ghost use Prim.Native.Nat.{ℕ, _<_, _^_};
+ghost use lib.ListN.{length};
+ghost use Rattle.sha2.specs.Sha2 as sha2;
+ghost use Rattle.sha2.specs.Sha512.{sha512};
+ghost use Rattle.sha512.specs.Code.{Holds};
+
+// A hash under way: the hash value after the whole blocks, the bytes past them, and how many bytes there were, modulo 2^64.
+pub struct Sha512 {
+    hash: [u64; 8],
+    buffer: [u8; 128],
+    count: u64,
+}
+
+impl Sha512 {
+    pub fn new() -> Sha512
+        ensures { λ r. ⌜ Holds r [] ⌝ }
+    {
+        let hash = initial_hash_value();
+        let buffer = [0u8; 128];
+        Sha512 {
+            hash: hash,
+            buffer: buffer,
+            count: 0,
+        }
+    }
+
+    pub fn update(self, piece: &[u8]) -> Sha512
+        ensures { λ r. ⌜ ((m : List ℕ) → Holds self m → Holds r (m ++ now (piece .entry))) ⌝ }
+    {
+        let n = (self.count % 128) as usize;
+        let count = wrapping_add_u64(self.count, piece.len() as u64);
+        let hash = self.hash;
+        let mut buffer = self.buffer;
+        let room = 128 - n;
+        if piece.len() < room {
+            copy(&mut buffer, n, piece);
+            return Sha512 {
+                hash: hash,
+                buffer: buffer,
+                count: count,
+            };
+        }
+        let k = round_constants();
+        copy(&mut buffer, n, &piece[..room]);
+        let first = hash_blocks(hash, &buffer, &k);
+        let rest = &piece[room..];
+        let last = hash_blocks(first, rest, &k);
+        let whole = rest.len() / 128 * 128;
+        copy(&mut buffer, 0, &rest[whole..]);
+        Sha512 {
+            hash: last,
+            buffer: buffer,
+            count: count,
+        }
+    }
+
+    pub fn finish(self) -> [u8; 64]
+        ensures { λ r. ⌜ ((m : List ℕ) → length m < 2 ^ 64 → Holds self m → r ≡ sha2.hash sha512 m) ⌝ }
+    {
+        let count = self.count;
+        let hash = self.hash;
+        let buffer = self.buffer;
+        let n = (count % 128) as usize;
+        let end = padded_length(n, count);
+        let t = padded(&buffer[..n], count, end);
+        let k = round_constants();
+        digest(hash_blocks(hash, &t[..end], &k))
+    }
+}
+
+pub fn hash(msg: &[u8]) -> [u8; 64]
+    ensures { λ r. ⌜ r ≡ sha2.hash sha512 (now (msg .entry)) ⌝ }
+{
+    Sha512::new().update(msg).finish()
+}
