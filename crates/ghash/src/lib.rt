@@ -19,7 +19,7 @@ pub struct Element {
 
 // The hash key H, ready for multiplication.
 pub struct HashKey {
-    pub h: Element,
+    h: Element,
 }
 
 // The key for the subkey H.
@@ -59,8 +59,8 @@ pub fn update(k: HashKey, y: Element, s: &[u8]) -> Element
     z
 }
 
-// The block that two numbers of 64 bits make.
-pub fn update_pair(k: HashKey, y: Element, a: u64, b: u64) -> Element
+// The block that two lengths make, of 64 bits each.
+pub fn update_lengths(k: HashKey, y: Element, a: u64, b: u64) -> Element
     ensures { λ r. ⌜ ((h : ℕ) → Prepared k h → elementOf r ≡ ghashFrom h (elementOf y) (toBigEndian 8 a ++ toBigEndian 8 b)) ⌝ }
 {
     absorb(k, y, Element { hi: a, lo: b })

@@ -1,9 +1,9 @@
--- Right because the two numbers are the words of their block.
+-- Right because the two lengths are the words of their block.
 use borrow.Author.Needs.{needs}
 use Rattle.ghash.specs.Elements.{elementOf}
 use Rattle.ghash.proofs.GhashLaws.{ghash-pair}
-use Rattle.ghash.proofs.update_pair.Statement.{statement}
-use Rattle.ghash.proofs.update_pair.Tie as tie
+use Rattle.ghash.proofs.update_lengths.Statement.{statement}
+use Rattle.ghash.proofs.update_lengths.Tie as tie
 
 absorb-requires : tie.Need-absorb-requires
 absorb-requires c κs = search needs
@@ -13,5 +13,5 @@ returns c =
     let args = c .before .args in
     λ h p. ghash-pair h (elementOf (args .y)) (args .a) (args .b) _ (search needs) (search needs) (c .absorb .ensures h p)
 
-pub update-pair-spec : {M : Type 1} → statement M
-update-pair-spec = tie.close (tie.spec absorb-requires returns)
+pub update-lengths-spec : {M : Type 1} → statement M
+update-lengths-spec = tie.close (tie.spec absorb-requires returns)

@@ -1,0 +1,4 @@
+pub mod GcmLaws
+pub mod InPlace
+pub mod HashParts
+pub mod Vectors
