@@ -1,29 +1,52 @@
--- Test case 2 of the GCM specification (McGrew and Viega), computed with AES-128: key, nonce and the one block of plaintext are zeros.
--- Of the ciphertext one byte is computed here.
+-- Test case 4 of the GCM specification (McGrew and Viega): 60 bytes of text and 20 of associated data. The test case says what the
+-- block cipher gives for each block that occurs, and that is all that GCM sees of it.
 -- Assumes nothing.
 use mathlib.Core.Path.{_≡_, refl}
-use mathlib.Core.List.{List, [], _∷_}
+use mathlib.Core.Bool.{cond}
+use mathlib.Core.List.{List, []}
 use Prim.Native.Nat.{ℕ}
-use lib.ListN.{replicate}
-use Rattle.aes.specs.Field.{sbox, affine, inverse, powers, square, mul as mul8, products, xtimes, rotl}
-use Rattle.aes.specs.Cipher.{cipher, rounds, addRoundKey, mixColumns, mixed, shiftRows, subBytes, state}
-use Rattle.aes.specs.KeyExpansion.{keyExpansion, roundKeys, words, keyWords, temp, rcon, xpower, wordOf, xorWord, subWord, rotWord}
-use Rattle.octets.specs.Numbers.{bigEndianAfter, toBigEndian}
+use lib.Dec.{eqb}
+use Rattle.octets.specs.Numbers.{bigEndianAfter, bigEndian, toBigEndian}
 use Rattle.octets.specs.Blocks.{zeroPadded, overBlocks}
 use Rattle.octets.specs.Xor.{xorWith}
-use Rattle.ctr.specs.BlockCipher.{blockCipher}
 use Rattle.ctr.specs.Ctr.{ctr}
 use Rattle.ghash.specs.Field.{timesX, product}
 use Rattle.ghash.specs.Ghash.{ghashFrom}
 use Rattle.gcm.specs.Gcm.{encrypt, hashInput, tag}
 
+-- x, where the block b writes the number n; else what follows
+abbrev maps : ℕ → ℕ → ℕ → List ℕ → List ℕ
+maps b n x rest = cond (eqb b n) (toBigEndian 16 x) rest
+
 abbrev E : List ℕ → List ℕ
-E = blockCipher (keyExpansion 4 10 (replicate 16 0))
+E block =
+    let b = bigEndian block in
+    maps b 0 0xb83b533708bf535d0aa6e52980d53b78
+    (maps b 0xcafebabefacedbaddecaf88800000001 0x3247184b3c4f69a44dbcd22887bbb418
+    (maps b 0xcafebabefacedbaddecaf88800000002 0x9bb22ce7d9f372c1ee2b28722b25f206
+    (maps b 0xcafebabefacedbaddecaf88800000003 0x650d887c3936533a1b8d4e1ea39d2b5c
+    (maps b 0xcafebabefacedbaddecaf88800000004 0x3de91827c10e9a4f5240647ee5221f20
+    (maps b 0xcafebabefacedbaddecaf88800000005 0xaac9e6ccc0074ac0873b9ba85d908bd0
+    [])))))
 
-test-2-text : encrypt E (replicate 12 0) (0 ∷ []) ≡ 0x03 ∷ []
-unfolding sbox affine inverse powers square mul8 products xtimes rotl cipher rounds addRoundKey mixColumns mixed shiftRows subBytes state keyExpansion roundKeys words keyWords temp rcon xpower wordOf xorWord subWord rotWord toBigEndian xorWith ctr encrypt
-test-2-text = refl
+abbrev nonce : List ℕ
+nonce = toBigEndian 12 0xcafebabefacedbaddecaf888
 
-test-2-tag : tag E (replicate 12 0) [] (toBigEndian 16 0x0388dace60b6a392f328c2b971b2fe78) ≡ toBigEndian 16 0xab6e47d42cec13bdf53a67b21257bddf
-unfolding sbox affine inverse powers square mul8 products xtimes rotl cipher rounds addRoundKey mixColumns mixed shiftRows subBytes state keyExpansion roundKeys words keyWords temp rcon xpower wordOf xorWord subWord rotWord bigEndianAfter toBigEndian zeroPadded overBlocks xorWith timesX product ghashFrom hashInput tag
-test-2-tag = refl
+abbrev aad : List ℕ
+aad = toBigEndian 20 0xfeedfacedeadbeeffeedfacedeadbeefabaddad2
+
+abbrev text : List ℕ
+text =
+    toBigEndian 60 0xd9313225f88406e5a55909c5aff5269a86a7a9531534f7da2e4c303d8a318a721c3c0c95956809532fcf0e2449a6b525b16aedf5aa0de657ba637b39
+
+abbrev body : List ℕ
+body =
+    toBigEndian 60 0x42831ec2217774244b7221b784d0d49ce3aa212f2c02a4e035c17e2329aca12e21d514b25466931c7d8f6a5aac84aa051ba30b396a0aac973d58e091
+
+test-4-body : encrypt E nonce text ≡ body
+unfolding bigEndianAfter toBigEndian xorWith ctr encrypt
+test-4-body = refl
+
+test-4-tag : tag E nonce aad body ≡ toBigEndian 16 0x5bc94fbc3221a5db94fae95ae7121a47
+unfolding bigEndianAfter toBigEndian zeroPadded overBlocks xorWith timesX product ghashFrom hashInput tag
+test-4-tag = refl

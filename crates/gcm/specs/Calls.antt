@@ -13,12 +13,12 @@ abbrev pub longest : ℕ
 longest = 2 ^ 32 - 16
 
 module _ (E : List ℕ → List ℕ) (nonce aad : List ℕ) where
-  -- sealing: text becomes text′, and t is the tag
-  pub record Sealed (text text′ t : List ℕ) : Type 0 where
+  -- what sealing does: the text becomes text′, and r is the tag
+  pub record Sealed (text text′ r : List ℕ) : Type 0 where
     pub bytes : text′ ≡ encrypt E nonce text
-    pub tagged : t ≡ tag E nonce aad (encrypt E nonce text)
+    pub tagged : r ≡ tag E nonce aad (encrypt E nonce text)
 
-  -- opening: body becomes body′, and r says whether the tag t was right
-  pub record Opened (t body body′ : List ℕ) (r : Bool) : Type 0 where
-    pub right : r ≡ isSome (decrypt E nonce aad t body)
-    pub bytes : body′ ≡ Option·getD (decrypt E nonce aad t body) body
+  -- what opening does: the body becomes body′, and r says whether the tag received was right
+  pub record Opened (received body body′ : List ℕ) (r : Bool) : Type 0 where
+    pub right : r ≡ isSome (decrypt E nonce aad received body)
+    pub bytes : body′ ≡ Option·getD (decrypt E nonce aad received body) body

@@ -32,6 +32,6 @@ hashInput aad body = padded aad ++ padded body ++ toBigEndian 8 (8 * length aad)
 unfoldable pub tag : (List ℕ → List ℕ) → List ℕ → List ℕ → List ℕ → List ℕ
 tag E nonce aad body = xor (toBigEndian 16 (ghash (hashSubkey E) (hashInput aad body))) (E (preCounterBlock nonce))
 
--- 7.2: the plaintext of `body`, where t is its tag
+-- 7.2: the plaintext of `body`, if the tag received is its tag
 unfoldable pub decrypt : (List ℕ → List ℕ) → List ℕ → List ℕ → List ℕ → List ℕ → Option (List ℕ)
-decrypt E nonce aad t body = cond (sameBytes t (tag E nonce aad body)) (some (encrypt E nonce body)) none
+decrypt E nonce aad received body = cond (sameBytes received (tag E nonce aad body)) (some (encrypt E nonce body)) none

@@ -17,7 +17,7 @@ fn encrypt_with(t: &[u32; 256], keys: &[[u8; 16]], nonce: [u8; 12], text: &mut [
     ctr::apply(t, keys, nonce, 2, text);
 }
 
-// Enciphers the text, and deciphers it again: both are the same.
+// Encrypts the text, or turns it back.
 pub fn apply(keys: &[[u8; 16]], nonce: [u8; 12], text: &mut [u8])
     requires { ⌜ (1 < length (now keys)) × (length (now text) < longest) ⌝ }
     ensures { λ _. ⌜ now (text .exit) ≡ encrypt (blockCipher (now (keys .entry))) nonce (now (text .entry)) ⌝ }
@@ -26,7 +26,7 @@ pub fn apply(keys: &[[u8; 16]], nonce: [u8; 12], text: &mut [u8])
     encrypt_with(&t, keys, nonce, text);
 }
 
-// Enciphers the text in place, and returns its tag.
+// Encrypts the text in place, and returns the tag.
 pub fn seal(keys: &[[u8; 16]], nonce: [u8; 12], aad: &[u8], text: &mut [u8]) -> [u8; 16]
     requires { ⌜ (1 < length (now keys)) × (length (now aad) < longest) × (length (now text) < longest) ⌝ }
     ensures { λ r. ⌜ Sealed (blockCipher (now (keys .entry))) nonce (now (aad .entry)) (now (text .entry)) (now (text .exit)) r ⌝ }
@@ -36,15 +36,15 @@ pub fn seal(keys: &[[u8; 16]], nonce: [u8; 12], aad: &[u8], text: &mut [u8]) -> 
     tags::tag_with(&t, keys, nonce, aad, text)
 }
 
-// Deciphers the text in place where the tag is right. Where it is not, the text stays as it was: it is hashed first, and no
+// Decrypts the text in place where the tag is right. Where it is not, the text stays as it was: it is hashed first, and no
 // plaintext is formed.
 pub fn open(keys: &[[u8; 16]], nonce: [u8; 12], aad: &[u8], tag: [u8; 16], text: &mut [u8]) -> bool
     requires { ⌜ (1 < length (now keys)) × (length (now aad) < longest) × (length (now text) < longest) ⌝ }
     ensures { λ r. ⌜ Opened (blockCipher (now (keys .entry))) nonce (now (aad .entry)) tag (now (text .entry)) (now (text .exit)) r ⌝ }
 {
     let t = aes::table();
-    let right = tags::tag_with(&t, keys, nonce, aad, text);
-    if octets::same::same_16(tag, right) {
+    let expected = tags::tag_with(&t, keys, nonce, aad, text);
+    if octets::same::same_16(tag, expected) {
         encrypt_with(&t, keys, nonce, text);
         return true;
     }

@@ -1,4 +1,4 @@
--- Right because the text is deciphered only where its tag is right.
+-- Right because the text is decrypted only where its tag is right.
 use mathlib.Core.Path.{sym, _∙_}
 use borrow.Author.Needs.{needs}
 use denote.Ref.{now}

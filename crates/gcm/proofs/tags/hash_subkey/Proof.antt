@@ -1,4 +1,4 @@
--- Right because H is the zero block, enciphered.
+-- Right because H is the zero block, encrypted.
 use mathlib.Core.Path.{ap, subst}
 use borrow.Author.Needs.{needs}
 use Rattle.octets.specs.Numbers.{bigEndian}
