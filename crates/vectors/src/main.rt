@@ -5,9 +5,9 @@ mod text;
 
 // The operation that a line names.
 fn run(line: &[u8]) {
-    if text::is(line, b"expand") {
+    if text::is(line, b"expand ") {
         block_cipher::expand(line);
-    } else if text::is(line, b"encrypt") {
+    } else if text::is(line, b"encrypt ") {
         block_cipher::encrypt(line);
     }
 }

@@ -133,19 +133,31 @@ pub fn show_16(b: [u8; 16]) {
     show(&b);
 }
 
-pub fn space() {
+// The first n bytes of a code.
+pub fn show_first(code: [u8; 32], n: u8) {
+    let count = n as usize;
+    if count <= 32 {
+        show(&code[..count]);
+    }
+}
+
+// A ciphertext and its tag.
+pub fn show_sealed(message: &[u8], tag: [u8; 16]) {
+    show(message);
     io::write_all(STDOUT_FILENO, b" ");
+    show_16(tag);
+}
+
+// Whether a message was opened, and what its buffer holds.
+pub fn show_opened(opened: bool, message: &[u8]) {
+    if opened {
+        io::write_all(STDOUT_FILENO, b" 1 ");
+    } else {
+        io::write_all(STDOUT_FILENO, b" 0 ");
+    }
+    show(message);
 }
 
 pub fn end_line() {
     io::write_all(STDOUT_FILENO, b"\n");
-}
-
-// Writes a truth value, as 0 or 1.
-pub fn show_bool(b: bool) {
-    if b {
-        io::write_all(STDOUT_FILENO, b"1");
-    } else {
-        io::write_all(STDOUT_FILENO, b"0");
-    }
 }

@@ -1,0 +1,39 @@
+// SP 800-38C and SP 800-38D. Each line gives: the ciphertext and the tag; 0 and the ciphertext, from opening with a tag that is
+// wrong in its last bit; 1 and the plaintext, from opening with the tag.
+use crate::text;
+ghost use Prim.Native.Nat.{_<_, _≤_};
+ghost use lib.ListN.{length};
+
+// The tag with its last bit changed.
+fn damaged(tag: [u8; 16]) -> [u8; 16] {
+    let mut t = tag;
+    t[15] = t[15] ^ 1;
+    t
+}
+
+// ccm KEY NONCE AAD TEXT.
+pub fn ccm(line: &[u8]) {
+    let mut key = [0u8; 16];
+    let k = text::bytes(line, text::after_space(line, 0), &mut key);
+    let mut nonce = [0u8; 11];
+    let n = text::bytes(line, k.next, &mut nonce);
+    let mut aad = [0u8; 32];
+    let a = text::bytes(line, n.next, &mut aad);
+    let mut message = [0u8; 256];
+    let m = text::bytes(line, a.next, &mut message);
+    let len = m.len;
+    let keys = aes::expand_key(key);
+    ccm_there_and_back(&keys, nonce, aad, &mut message[..len]);
+}
+
+fn ccm_there_and_back(keys: &[[u8; 16]], nonce: [u8; 11], aad: [u8; 32], message: &mut [u8])
+    requires { ⌜ (1 < length (now keys)) × (length (now message) ≤ 256) ⌝ }
+{
+    let tag = ccm::seal(keys, nonce, aad, message);
+    text::show_sealed(message, tag);
+    let wrong = ccm::open(keys, nonce, aad, damaged(tag), message);
+    text::show_opened(wrong, message);
+    let right = ccm::open(keys, nonce, aad, tag, message);
+    text::show_opened(right, message);
+    text::end_line();
+}
