@@ -1,6 +1,7 @@
 // Published vectors of the primitives: reads lines of operations from standard input and writes a line of results for each.
 // The file `stdin` has the published inputs, and `stdout`, with which the output is compared, the published results.
 mod block_cipher;
+mod modes;
 mod text;
 
 // The operation that a line names.
@@ -9,6 +10,8 @@ fn run(line: &[u8]) {
         block_cipher::expand(line);
     } else if text::is(line, b"encrypt ") {
         block_cipher::encrypt(line);
+    } else if text::is(line, b"ccm ") {
+        modes::ccm(line);
     }
 }
 

@@ -134,9 +134,9 @@ pub fn show_16(b: [u8; 16]) {
 }
 
 // The first n bytes of a code.
-pub fn show_first(code: [u8; 32], n: u8) {
+pub fn show_first(code: &[u8], n: u8) {
     let count = n as usize;
-    if count <= 32 {
+    if count <= code.len() {
         show(&code[..count]);
     }
 }
