@@ -1,12 +1,21 @@
 // Published vectors of the primitives: reads lines of operations from standard input and writes a line of results for each.
 // The file `stdin` has the published inputs, and `stdout`, with which the output is compared, the published results.
 mod block_cipher;
+mod hashes;
 mod modes;
 mod text;
 
 // The operation that a line names.
 fn run(line: &[u8]) {
-    if text::is(line, b"expand ") {
+    if text::is(line, b"sha256 ") {
+        hashes::sha256(line);
+    } else if text::is(line, b"sha512 ") {
+        hashes::sha512(line);
+    } else if text::is(line, b"sha256-pieces ") {
+        hashes::sha256_pieces();
+    } else if text::is(line, b"sha512-pieces ") {
+        hashes::sha512_pieces();
+    } else if text::is(line, b"expand ") {
         block_cipher::expand(line);
     } else if text::is(line, b"encrypt ") {
         block_cipher::encrypt(line);

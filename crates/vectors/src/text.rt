@@ -113,8 +113,13 @@ pub fn line_end(text: &[u8], at: usize) -> usize
     i
 }
 
-fn wide(x: u8) -> u64 {
-    x as u64
+pub fn wide(x: u8) -> usize {
+    x as usize
+}
+
+// The first n bytes of b, or all of them.
+pub fn prefix(b: &[u8], n: usize) -> &[u8] {
+    if n <= b.len() { &b[..n] } else { b }
 }
 
 // Writes a byte string in hexadecimal, and `-` for the empty one.
@@ -124,21 +129,13 @@ pub fn show(b: &[u8]) {
     }
     let mut i: usize = 0;
     while i < b.len() {
-        io::print_hex(STDOUT_FILENO, wide(b[i]), 2);
+        io::print_hex(STDOUT_FILENO, wide(b[i]) as u64, 2);
         i += 1;
     }
 }
 
 pub fn show_16(b: [u8; 16]) {
     show(&b);
-}
-
-// The first n bytes of a code.
-pub fn show_first(code: &[u8], n: u8) {
-    let count = n as usize;
-    if count <= code.len() {
-        show(&code[..count]);
-    }
 }
 
 // A ciphertext and its tag.

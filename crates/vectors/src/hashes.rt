@@ -1,0 +1,59 @@
+// FIPS 180-4, FIPS 198-1 and SP 800-108.
+use crate::text;
+ghost use Prim.Native.Nat.{_≤_};
+
+// sha256 MESSAGE: its digest.
+pub fn sha256(line: &[u8]) {
+    let mut message = [0u8; 256];
+    let m = text::bytes(line, text::after_space(line, 0), &mut message);
+    let digest = sha256::hash(text::prefix(&message, m.len));
+    text::show(&digest);
+    text::end_line();
+}
+
+// sha512 MESSAGE: its digest.
+pub fn sha512(line: &[u8]) {
+    let mut message = [0u8; 256];
+    let m = text::bytes(line, text::after_space(line, 0), &mut message);
+    let digest = sha512::hash(text::prefix(&message, m.len));
+    text::show(&digest);
+    text::end_line();
+}
+
+// The length of the piece after one of n bytes, where `left` bytes are left: 1, 8, 15, .. below 997, and over again; 0 at the end.
+fn next_piece(n: usize, left: usize) -> usize
+    ensures { λ r. ⌜ (r ≤ 997) × (r ≤ left) ⌝ }
+{
+    let m = n % 990 + 7;
+    if m < left { m } else { left }
+}
+
+// sha256-pieces: the digest of a million times the byte `a`, taken in by pieces.
+pub fn sha256_pieces() {
+    let a = [97u8; 997];
+    let mut running = sha256::Sha256::new();
+    let mut left: usize = 1000000;
+    let mut n: usize = 1;
+    while 0 < n {
+        running = running.update(text::prefix(&a, n));
+        left -= n;
+        n = next_piece(n, left);
+    }
+    text::show(&running.finish());
+    text::end_line();
+}
+
+// sha512-pieces: the digest of a million times the byte `a`, taken in by pieces.
+pub fn sha512_pieces() {
+    let a = [97u8; 997];
+    let mut running = sha512::Sha512::new();
+    let mut left: usize = 1000000;
+    let mut n: usize = 1;
+    while 0 < n {
+        running = running.update(text::prefix(&a, n));
+        left -= n;
+        n = next_piece(n, left);
+    }
+    text::show(&running.finish());
+    text::end_line();
+}
