@@ -21,6 +21,8 @@ fn run(line: &[u8]) {
         block_cipher::encrypt(line);
     } else if text::is(line, b"ccm ") {
         modes::ccm(line);
+    } else if text::is(line, b"gcm ") {
+        modes::gcm(line);
     }
 }
 

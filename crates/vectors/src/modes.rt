@@ -37,3 +37,30 @@ fn ccm_there_and_back(keys: &[[u8; 16]], nonce: [u8; 11], aad: [u8; 32], message
     text::show_opened(right, message);
     text::end_line();
 }
+
+// gcm KEY NONCE AAD TEXT.
+pub fn gcm(line: &[u8]) {
+    let mut key = [0u8; 16];
+    let k = text::bytes(line, text::after_space(line, 0), &mut key);
+    let mut nonce = [0u8; 12];
+    let n = text::bytes(line, k.next, &mut nonce);
+    let mut aad = [0u8; 128];
+    let a = text::bytes(line, n.next, &mut aad);
+    let mut message = [0u8; 256];
+    let m = text::bytes(line, a.next, &mut message);
+    let len = m.len;
+    let keys = aes::expand_key(key);
+    gcm_there_and_back(&keys, nonce, text::prefix(&aad, a.len), &mut message[..len]);
+}
+
+fn gcm_there_and_back(keys: &[[u8; 16]], nonce: [u8; 12], aad: &[u8], message: &mut [u8])
+    requires { ⌜ (1 < length (now keys)) × (length (now aad) ≤ 128) × (length (now message) ≤ 256) ⌝ }
+{
+    let tag = gcm::seal(keys, nonce, aad, message);
+    text::show_sealed(message, tag);
+    let wrong = gcm::open(keys, nonce, aad, damaged(tag), message);
+    text::show_opened(wrong, message);
+    let right = gcm::open(keys, nonce, aad, tag, message);
+    text::show_opened(right, message);
+    text::end_line();
+}

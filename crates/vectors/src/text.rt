@@ -118,7 +118,9 @@ pub fn wide(x: u8) -> usize {
 }
 
 // The first n bytes of b, or all of them.
-pub fn prefix(b: &[u8], n: usize) -> &[u8] {
+pub fn prefix(b: &[u8], n: usize) -> &[u8]
+    ensures { λ r. ⌜ length (now r) ≤ length (now (b .entry)) ⌝ }
+{
     if n <= b.len() { &b[..n] } else { b }
 }
 
