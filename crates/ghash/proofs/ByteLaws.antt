@@ -3,13 +3,14 @@
 use mathlib.Core.Path.{_≡_, refl, sym, ap, ap₂, _∙_}
 use mathlib.Core.List.{List, [], _∷_, _++_}
 use Prim.Native.Nat.{ℕ, zero, suc, _+_, _*_, _/_, _%_, _^_, _<_, _≤_}
-use native.Mathlib.Nat.{le-of-eq}
+use native.Mathlib.Nat.{le-of-eq, zero-add}
 use native.Mathlib.Omega.{arith}
 use lib.Pow.{high, low, shr-lt}
-use lib.ListN.{length, take, drop, length-append, length-drop}
-use lib.Seq.{take-add, take-all, drop-drop, length-take-le}
+use lib.ListN.{length, take, drop, replicate, length-append, length-drop}
+use lib.Seq.{paste, take-add, take-all, take-at, take-length, drop-drop, length-take-le}
 use Rattle.octets.specs.Numbers.{bigEndianAfter, bigEndian, toBigEndian, bytesAt}
 use Rattle.octets.specs.Blocks.{zeroPadded}
+use Rattle.octets.proofs.Paste.{paste-all}
 use Rattle.octets.proofs.NumberLaws.{big-append, big-after, big-split, big-low, length-toBigEndian}
 use Rattle.ghash.specs.Elements.{join}
 
@@ -65,3 +66,11 @@ pub block-is : (a b : ℕ) → b < 2 ^ 64 → toBigEndian 8 a ++ toBigEndian 8 b
 block-is a b hb =
     sym (big-split 8 8 (join a b)
     ∙ ap₂ (λ (x : ℕ) (l : List ℕ). toBigEndian 8 x ++ l) (high a 64 hb) (sym (big-low 8 (join a b)) ∙ ap (toBigEndian 8) (low a 64 hb)))
+
+-- two runs of eight bytes, put over 16 zeros one behind the other
+pub halves : (a b r s : List ℕ) → length a ≡ 8 → length b ≡ 8 → r ≡ paste (replicate 16 0) 0 a (length a) → s ≡ paste r 8 b (length b) → s ≡ a ++ b
+halves a b r s la lb er es =
+    let z : List ℕ = drop 8 (replicate 16 0) in
+    let e : r ≡ a ++ z = er ∙ ap₂ (λ (x : List ℕ) (k : ℕ). x ++ drop k (replicate 16 0)) (take-length a) (zero-add (length a) ∙ la) in
+    let l : length r ≡ length a + 8 = ap length e ∙ length-append a z in
+    es ∙ paste-all r 8 b (omega arith) ∙ ap (λ (x : List ℕ). x ++ b) (ap (take 8) e ∙ take-at a z 8 la)

@@ -72,22 +72,8 @@ pub fn block_of(e: Element) -> [u8; 16]
 {
     let a = octets::big_endian::u64_bytes(e.hi);
     let b = octets::big_endian::u64_bytes(e.lo);
-    [
-        a[0],
-        a[1],
-        a[2],
-        a[3],
-        a[4],
-        a[5],
-        a[6],
-        a[7],
-        b[0],
-        b[1],
-        b[2],
-        b[3],
-        b[4],
-        b[5],
-        b[6],
-        b[7],
-    ]
+    let mut r = [0u8; 16];
+    octets::runs::copy(&mut r, 0, &a);
+    octets::runs::copy(&mut r, 8, &b);
+    r
 }
