@@ -1,5 +1,6 @@
 pub mod WordLaws
 pub mod TableLaws
+pub mod CipherLaws
 pub mod ExpansionLaws
 pub mod Lengths
 pub mod Vectors

@@ -32,6 +32,10 @@ xor {w} {v} p q = record {
   at3 = ap (λ (x : ℕ). x % 256) (xor-shr w v 24) ∙ xor-mod (w / 16777216) (v / 16777216) 8 ∙ ap₂ bitXor (p .at3) (q .at3);
 }
 
+-- the sum of four bytes has those bytes
+four : (a b c d : ℕ) → a < 256 → b < 256 → c < 256 → d < 256 → Bytes (d * 16777216 + (c * 65536 + (b * 256 + a))) a b c d
+four a b c d ha hb hc hd = record { at0 = omega arith; at1 = omega arith; at2 = omega arith; at3 = omega arith }
+
 -- a word made of its bytes
 pub joined : (a b c d : ℕ) → a < 256 → b < 256 → c < 256 → d < 256
     → Bytes (bitOr (bitOr (bitOr a (b * 256 % 4294967296)) (c * 65536 % 4294967296)) (d * 16777216 % 4294967296)) a b c d
@@ -43,7 +47,7 @@ joined a b c d ha hb hc hd =
     let e2 : bitOr (b * 256 + a) (c * 65536) ≡ c * 65536 + (b * 256 + a) = or-shifted-r c 16 (b * 256 + a) (omega arith) in
     let e3 : bitOr (c * 65536 + (b * 256 + a)) (d * 16777216) ≡ d * 16777216 + (c * 65536 + (b * 256 + a)) =
     or-shifted-r d 24 (c * 65536 + (b * 256 + a)) (omega arith) in
-    rw (eb, ec, ed, e1, e2, e3) (record { at0 = omega arith; at1 = omega arith; at2 = omega arith; at3 = omega arith })
+    rw (eb, ec, ed, e1, e2, e3) (four a b c d ha hb hc hd)
 
 -- a word is the sum of its bytes
 chained : (x q1 q2 q3 a b c : ℕ) → q1 * 256 + a ≡ x → q2 * 256 + b ≡ q1 → q3 * 256 + c ≡ q2 → q3 * 16777216 + (c * 65536 + (b * 256 + a)) ≡ x
@@ -59,11 +63,6 @@ sum x h =
     (ap (λ (y : ℕ). y * 256 + byte1 x) (sym (div-div-eq-div-mul x 256 256)) ∙ div-add-mod' (x / 256) 256)
     (ap (λ (y : ℕ). y * 256 + byte2 x) (sym (div-div-eq-div-mul x 65536 256)) ∙ div-add-mod' (x / 65536) 256))
 
--- the sum of four bytes has those bytes
-four : (a b c d : ℕ) → a < 256 → b < 256 → c < 256 → d < 256 → Bytes (d * 16777216 + (c * 65536 + (b * 256 + a))) a b c d
-four a b c d ha hb hc hd = record { at0 = omega arith; at1 = omega arith; at2 = omega arith; at3 = omega arith }
-
--- the sum of four bytes, of which the first comes from the top of w, is what w gives when it is turned
 turned-sum : (a b c d : ℕ) → c * 16777216 + (b * 65536 + (a * 256 + d)) ≡ (c * 65536 + (b * 256 + a)) * 256 + d
 turned-sum a b c d = omega arith
 

@@ -17,14 +17,14 @@ subBytes s = state (λ i. sbox (getD s i 0))
 unfoldable pub shiftRows : List ℕ → List ℕ
 shiftRows s = state (λ i. getD s ((i + 4 * (i % 4)) % 16) 0)
 
--- 5.1.3: row r of the column a b c d times the fixed matrix
+-- 4.3, 5.1.3: row r of the product of the fixed matrix and the column a b c d
 unfoldable pub mixed : ℕ → ℕ → ℕ → ℕ → ℕ → ℕ
 mixed zero a b c d = bitXor (bitXor (bitXor (mul 2 a) (mul 3 b)) c) d
 mixed (suc zero) a b c d = bitXor (bitXor (bitXor a (mul 2 b)) (mul 3 c)) d
 mixed (suc (suc zero)) a b c d = bitXor (bitXor (bitXor a b) (mul 2 c)) (mul 3 d)
 mixed (suc (suc (suc r))) a b c d = bitXor (bitXor (bitXor (mul 3 a) b) c) (mul 2 d)
 
--- 5.1.3, MIXCOLUMNS: each column times the fixed matrix
+-- 5.1.3, MIXCOLUMNS: the product for each column
 unfoldable pub mixColumns : List ℕ → List ℕ
 mixColumns s =
     state (λ i. mixed (i % 4) (getD s (i / 4 * 4) 0) (getD s (i / 4 * 4 + 1) 0) (getD s (i / 4 * 4 + 2) 0) (getD s (i / 4 * 4 + 3) 0))

@@ -1,5 +1,6 @@
 -- Right because the columns of the block stand for the block.
 use borrow.Author.Needs.{needs}
+use Rattle.aes.proofs.CipherLaws.{named}
 use Rattle.aes.proofs.encrypt_with.Tie as tie
 use Rattle.aes.proofs.encrypt_with.Statement.{statement}
 
@@ -13,7 +14,7 @@ store-requires : tie.Need-store-requires
 store-requires c κs = search needs
 
 returns : tie.Need-returns
-returns c = cc
+returns c = named _ _ (c .before .before .load .ensures) (c .before .encrypt .ensures) (c .store .ensures)
 
 pub encrypt-with-spec : {M : Type 1} → statement M
 encrypt-with-spec = tie.close (tie.spec load-requires encrypt-requires store-requires returns)

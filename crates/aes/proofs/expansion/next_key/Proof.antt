@@ -1,5 +1,9 @@
 -- Right because the columns of the key stand for the key.
+use Prim.Native.Nat.{ℕ}
+use mathlib.Core.List.{List}
+use mathlib.Core.Path.{_∙_, ap}
 use borrow.Author.Needs.{needs}
+use Rattle.aes.specs.NextKey.{nextKey}
 use Rattle.aes.proofs.expansion.next_key.Tie as tie
 use Rattle.aes.proofs.expansion.next_key.Statement.{statement}
 
@@ -13,7 +17,8 @@ store-requires : tie.Need-store-requires
 store-requires c κs = search needs
 
 returns : tie.Need-returns
-returns c = cc
+returns c =
+    c .store .ensures ∙ c .before .next-columns .ensures ∙ ap (λ (k : List ℕ). nextKey k (c .before .before .before .args .rcon)) (c .before .before .load .ensures)
 
 pub next-key-spec : {M : Type 1} → statement M
 next-key-spec = tie.close (tie.spec load-requires next-columns-requires store-requires returns)

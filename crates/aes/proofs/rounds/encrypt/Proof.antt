@@ -7,8 +7,9 @@ use native.Mathlib.Omega.{arith}
 use denote.Ref.{now}
 use lib.ListN.{getD, length}
 use borrow.Author.Needs.{needs}
-use Rattle.aes.specs.Cipher.{cipher, rounds, addRoundKey, mixColumns, shiftRows, subBytes}
+use Rattle.aes.specs.Cipher.{rounds, addRoundKey, mixColumns, shiftRows, subBytes}
 use Rattle.aes.specs.Words.{stateOf}
+use Rattle.aes.proofs.CipherLaws.{ciphered}
 use Rattle.aes.proofs.rounds.encrypt.Tie as tie
 use Rattle.aes.proofs.rounds.encrypt.Statement.{statement}
 
@@ -84,12 +85,11 @@ last-round-requires : tie.Need-last-round-requires Inv-loop μ-loop
 last-round-requires c κs = search needs
 
 returns : tie.Need-returns Inv-loop μ-loop
-unfolding cipher
 returns c =
-    let keys = now (c .before .before .before .before .before .before .before .before .args .keys) in
-    let e1 : c .before .before .before .before .loop .r ≡ length keys - 1 - 1 = omega arith in
-    let e2 : length keys - 2 + 1 ≡ length keys - 1 = omega arith in
-    cc
+    let before-loop = c .before .before .before .before .before in
+    let keys = now (before-loop .before .before .before .args .keys) in
+    ciphered (length keys - 1) (c .before .before .before .before .loop .r) (length keys - 2 + 1) keys _ (before-loop .before .load .ensures) (before-loop .add-round-key .ensures)
+    (c .before .before .before .before .loop .inv .2) (c .before .load3 .ensures) (c .last-round .ensures) (omega arith) (omega arith)
 
 pub encrypt-spec : {M : Type 1} → statement M
 encrypt-spec =
