@@ -1,43 +1,12 @@
 // CCM (SP 800-38C) with AES, a nonce of 11 bytes, 32 bytes of associated data and a tag of 16 bytes; the text in place.
+mod formatting;
+
 ghost use mathlib.Core.Path.{_≡_};
-ghost use mathlib.Core.List.{_∷_};
 ghost use Prim.Native.Nat.{_<_};
 ghost use lib.ListN.{length};
 ghost use Rattle.aes.specs.Words.{SubMixTable};
 ghost use Rattle.ctr.specs.BlockCipher.{blockCipher};
-ghost use Rattle.ccm.specs.Formatting.{associated};
 ghost use Rattle.ccm.specs.Ccm.{encrypt, tag, longest, Sealed, Opened};
-
-// What the first block (A.2.1) and the counter blocks (A.3) begin with.
-fn flags_and_nonce(flags: u8, nonce: [u8; 11]) -> [u8; 12]
-    ensures { λ r. ⌜ r ≡ flags ∷ nonce ⌝ }
-{
-    let n = nonce;
-    [
-        flags,
-        n[0],
-        n[1],
-        n[2],
-        n[3],
-        n[4],
-        n[5],
-        n[6],
-        n[7],
-        n[8],
-        n[9],
-        n[10],
-    ]
-}
-
-// The associated data behind their length (A.2.2).
-fn with_length(aad: [u8; 32]) -> [u8; 34]
-    ensures { λ r. ⌜ r ≡ associated aad ⌝ }
-{
-    let mut b = [0u8; 34];
-    b[1] = 32;
-    octets::runs::copy(&mut b, 2, &aad);
-    b
-}
 
 fn tag_of(
     t: &[u32; 256],
@@ -49,12 +18,16 @@ fn tag_of(
     requires { ⌜ (1 < length (now keys)) × SubMixTable (now t) × (length (now text) < longest) ⌝ }
     ensures { λ r. ⌜ r ≡ tag (blockCipher (now (keys .entry))) nonce aad (now (text .entry)) ⌝ }
 {
-    let first = ctr::counter_block(flags_and_nonce(0x7B, nonce), text.len() as u32);
-    let associated = with_length(aad);
+    let first = ctr::counter_block(formatting::flags_and_nonce(0x7B, nonce), text.len() as u32);
+    let associated = formatting::with_length(aad);
     let y0 = cbc_mac::chain(t, keys, [0u8; 16], &first);
     let y1 = cbc_mac::chain(t, keys, y0, &associated);
     let y = cbc_mac::chain(t, keys, y1, text);
-    let s0 = aes::encrypt_with(t, keys, ctr::counter_block(flags_and_nonce(3, nonce), 0));
+    let s0 = aes::encrypt_with(
+        t,
+        keys,
+        ctr::counter_block(formatting::flags_and_nonce(3, nonce), 0),
+    );
     octets::runs::xor_16(y, s0)
 }
 
@@ -62,7 +35,7 @@ fn xor_key_stream(t: &[u32; 256], keys: &[[u8; 16]], nonce: [u8; 11], text: &mut
     requires { ⌜ (1 < length (now keys)) × SubMixTable (now t) × (length (now text) < longest) ⌝ }
     ensures { λ _. ⌜ now (text .exit) ≡ encrypt (blockCipher (now (keys .entry))) nonce (now (text .entry)) ⌝ }
 {
-    ctr::apply(t, keys, flags_and_nonce(3, nonce), 1, text);
+    ctr::apply(t, keys, formatting::flags_and_nonce(3, nonce), 1, text);
 }
 
 // Encrypts the text, or turns it back.

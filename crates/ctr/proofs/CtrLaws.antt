@@ -1,16 +1,17 @@
 -- Laws of counter mode: it keeps the length, undoes itself, and goes on block by block.
 -- Assumes nothing.
 use mathlib.Core.Path.{_≡_, sym, ap, ap₂, _∙_}
-use mathlib.Core.List.{List}
-use Prim.Native.Nat.{ℕ, _+_, _*_, _/_, _%_, _<_, _≤_}
+use mathlib.Core.List.{List, _++_}
+use Prim.Native.Nat.{ℕ, _+_, _-_, _*_, _/_, _%_, _<_, _≤_}
 use native.Mathlib.Nat.{zero-add}
 use native.Mathlib.Omega.{arith}
 use lib.ListN.{length, getD, take, drop}
 use lib.Seq.{paste, drop-paste}
+use Rattle.octets.specs.Numbers.{toBigEndian}
 use Rattle.octets.specs.Xor.{xorWith, xor}
 use Rattle.octets.proofs.XorWith.{length-xorWith, xorWith-twice, drop-xorWith, take-xorWith}
 use Rattle.octets.proofs.Paste.{paste-more, paste-all}
-use Rattle.ctr.specs.Ctr.{ctr}
+use Rattle.ctr.specs.Ctr.{ctr, counterBlocks}
 
 module _ (E : List ℕ → List ℕ) (T : ℕ → List ℕ) where
   pub length-ctr : (text : List ℕ) → length (ctr E T text) ≡ length text
@@ -22,7 +23,7 @@ module _ (E : List ℕ → List ℕ) (T : ℕ → List ℕ) where
   ctr-twice text = xorWith-twice (λ i. getD (E (T (i / 16))) (i % 16) 0) 0 text
 
   -- a turn of the loop: output block j goes onto the m bytes from i = 16 j
-  pub ctr-turn : (d : List ℕ) (i j m : ℕ) (ks buf out : List ℕ) → i ≤ length d → i ≡ 16 * j → m ≤ 16
+  ctr-turn : (d : List ℕ) (i j m : ℕ) (ks buf out : List ℕ) → i ≤ length d → i ≡ 16 * j → m ≤ 16
       → ks ≡ E (T j)
       → buf ≡ paste d 0 (ctr E T d) i
       → out ≡ paste buf i (xor (drop i buf) ks) m
@@ -54,3 +55,14 @@ module _ (E : List ℕ → List ℕ) (T : ℕ → List ℕ) where
   ctr-end d i buf hi eb =
       let l = length-ctr d in
       eb ∙ ap (paste d 0 (ctr E T d)) (hi ∙ sym l) ∙ paste-all d 0 (ctr E T d) (omega arith)
+
+-- the same turn, where the counter block is that of number n
+pub counter-turn : (E : List ℕ → List ℕ) (prefix : List ℕ) (first n : ℕ) (d : List ℕ) (i m : ℕ) (ks buf out : List ℕ) → first ≤ n
+    → i ≤ length d → i ≡ 16 * (n - first) → m ≤ 16
+    → ks ≡ E (prefix ++ toBigEndian 4 n)
+    → buf ≡ paste d 0 (ctr E (counterBlocks prefix first) d) i
+    → out ≡ paste buf i (xor (drop i buf) ks) m
+    → out ≡ paste d 0 (ctr E (counterBlocks prefix first) d) (i + m)
+counter-turn E prefix first n d i m ks buf out hn hi ei hm ek =
+    let e : n ≡ first + (n - first) = omega arith in
+    ctr-turn E (counterBlocks prefix first) d i (n - first) m ks buf out hi ei hm (ek ∙ ap (λ (k : ℕ). E (prefix ++ toBigEndian 4 k)) e)

@@ -1,6 +1,9 @@
 -- Right because the cipher is applied to the xored blocks.
 -- Assumes nothing.
+use mathlib.Core.Path.{ap, _∙_}
 use borrow.Author.Needs.{needs}
+use denote.Ref.{now}
+use Rattle.ctr.specs.BlockCipher.{blockCipher}
 use Rattle.cbc_mac.proofs.next.Statement.{statement}
 use Rattle.cbc_mac.proofs.next.Tie as tie
 
@@ -11,7 +14,7 @@ encrypt-with-requires : tie.Need-encrypt-with-requires
 encrypt-with-requires c κs = search needs
 
 returns : tie.Need-returns
-returns c = cc
+returns c = c .encrypt-with .ensures ∙ ap (blockCipher (now (c .before .before .args .keys))) (c .before .xor-16 .ensures)
 
 pub next-spec : {M : Type 1} → statement M
 next-spec = tie.close (tie.spec xor-16-requires encrypt-with-requires returns)

@@ -1,18 +1,15 @@
 -- Right because each turn xors the next block of the text with the next output block, and the end what is left.
 -- Assumes nothing.
-use mathlib.Core.Path.{_≡_, refl, sym, ap, _∙_}
-use mathlib.Core.List.{List, _++_}
+use mathlib.Core.Path.{_≡_, refl, _∙_}
 use Prim.Native.Nat.{ℕ, _+_, _-_, _*_, _≤_}
 use native.Mathlib.Omega.{arith}
 use lib.ListN.{length}
 use lib.Seq.{paste, paste-zero}
 use denote.Ref.{now}
 use borrow.Author.Needs.{needs}
-use Rattle.octets.specs.Numbers.{toBigEndian}
-use Rattle.octets.proofs.Paste.{paste-all}
 use Rattle.ctr.specs.BlockCipher.{blockCipher}
 use Rattle.ctr.specs.Ctr.{ctr, counterBlocks}
-use Rattle.ctr.proofs.CtrLaws.{length-ctr, ctr-turn, ctr-end}
+use Rattle.ctr.proofs.CtrLaws.{counter-turn, ctr-end}
 use Rattle.ctr.proofs.apply.Statement.{statement}
 use Rattle.ctr.proofs.apply.Tie as tie
 
@@ -52,11 +49,8 @@ loop-again c =
     let x = c .before .before .xor-at in
     let g = c .before .before .before .key-stream in
     let k = c .before .before .before .before .before .before in
-    let a = k .before .before .args in
-    let e : k .loop .n ≡ a .first + (k .loop .n - a .first) = omega arith in (
-      ctr-turn (blockCipher (now (a .keys))) (counterBlocks (a .prefix) (a .first)) (now (a .text)) (k .loop .i) (k .loop .n - a .first) 16 (g .result) (k .loop .text) _
-          (omega arith) (omega arith) (omega arith)
-          (g .ensures ∙ ap (λ (n : ℕ). blockCipher (now (a .keys)) (a .prefix ++ toBigEndian 4 n)) e) (k .loop .inv .0) (x .ensures),
+    let a = k .before .before .args in (
+      counter-turn (blockCipher (now (a .keys))) (a .prefix) (a .first) (k .loop .n) (now (a .text)) (k .loop .i) 16 (g .result) (k .loop .text) _ (omega arith) (omega arith) (omega arith) (omega arith) (g .ensures) (k .loop .inv .0) (x .ensures),
       omega arith,
       omega arith,
       omega arith,
@@ -81,11 +75,9 @@ returns c =
     let g = c .before .before .before .key-stream2 in
     let k = c .before .before .before .before .before .before .before in
     let a = k .before .before .args in
-    let e : k .loop .n ≡ a .first + (k .loop .n - a .first) = omega arith in
-    ctr-end (blockCipher (now (a .keys))) (counterBlocks (a .prefix) (a .first)) (now (a .text)) (k .loop .i + (length (k .loop .text) - k .loop .i)) _ (omega arith)
-    (ctr-turn (blockCipher (now (a .keys))) (counterBlocks (a .prefix) (a .first)) (now (a .text)) (k .loop .i) (k .loop .n - a .first) _ (g .result) (k .loop .text) _
-    (omega arith) (omega arith) (omega arith)
-    (g .ensures ∙ ap (λ (n : ℕ). blockCipher (now (a .keys)) (a .prefix ++ toBigEndian 4 n)) e) (k .loop .inv .0) (x .ensures))
+    let m : ℕ = length (k .loop .text) - k .loop .i in
+    ctr-end (blockCipher (now (a .keys))) (counterBlocks (a .prefix) (a .first)) (now (a .text)) (k .loop .i + m) _ (omega arith)
+    (counter-turn (blockCipher (now (a .keys))) (a .prefix) (a .first) (k .loop .n) (now (a .text)) (k .loop .i) m (g .result) (k .loop .text) _ (omega arith) (omega arith) (omega arith) (omega arith) (g .ensures) (k .loop .inv .0) (x .ensures))
 
 same-length-2 : tie.Need-same-length-2 Inv-loop μ-loop
 same-length-2 c = omega arith

@@ -1,6 +1,9 @@
 -- Right because the cipher is applied to the counter block.
 -- Assumes nothing.
+use mathlib.Core.Path.{ap, _∙_}
 use borrow.Author.Needs.{needs}
+use denote.Ref.{now}
+use Rattle.ctr.specs.BlockCipher.{blockCipher}
 use Rattle.ctr.proofs.key_stream.Statement.{statement}
 use Rattle.ctr.proofs.key_stream.Tie as tie
 
@@ -11,7 +14,7 @@ encrypt-with-requires : tie.Need-encrypt-with-requires
 encrypt-with-requires c κs = search needs
 
 returns : tie.Need-returns
-returns c = cc
+returns c = c .encrypt-with .ensures ∙ ap (blockCipher (now (c .before .before .args .keys))) (c .before .counter-block .ensures)
 
 pub key-stream-spec : {M : Type 1} → statement M
 key-stream-spec = tie.close (tie.spec counter-block-requires encrypt-with-requires returns)

@@ -2,8 +2,8 @@
 -- Assumes nothing.
 use Rattle.ccm.proofs.Formatted.{associated-right}
 use borrow.Author.Needs.{needs}
-use Rattle.ccm.proofs.with_length.Statement.{statement}
-use Rattle.ccm.proofs.with_length.Tie as tie
+use Rattle.ccm.proofs.formatting.with_length.Statement.{statement}
+use Rattle.ccm.proofs.formatting.with_length.Tie as tie
 
 array-write-b : tie.Need-array-write-b
 array-write-b c = search needs

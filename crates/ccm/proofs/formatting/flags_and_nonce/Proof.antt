@@ -5,8 +5,8 @@ use mathlib.Core.Path.{ap}
 use Prim.Native.Nat.{ℕ}
 use Rattle.octets.proofs.Elements.{whole}
 use borrow.Author.Needs.{needs}
-use Rattle.ccm.proofs.flags_and_nonce.Statement.{statement}
-use Rattle.ccm.proofs.flags_and_nonce.Tie as tie
+use Rattle.ccm.proofs.formatting.flags_and_nonce.Statement.{statement}
+use Rattle.ccm.proofs.formatting.flags_and_nonce.Tie as tie
 
 array-read-t6 : tie.Need-array-read-t6
 array-read-t6 c = search needs
