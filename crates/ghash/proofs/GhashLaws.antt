@@ -1,13 +1,13 @@
 -- GHASH of joined and of padded strings, and of the block that two words make.
 -- Assumes nothing.
-use mathlib.Core.Path.{_≡_, refl, sym, ap, ap₂, _∙_}
+use mathlib.Core.Path.{_≡_, sym, ap, _∙_}
 use mathlib.Core.List.{List, _++_}
 use Prim.Native.Nat.{ℕ, _+_, _*_, _^_, _<_}
 use native.Mathlib.Omega.{arith}
 use lib.Bits.{bitXor}
 use lib.ListN.{length, length-append}
 use Rattle.octets.specs.Numbers.{bigEndian, toBigEndian}
-use Rattle.octets.specs.Blocks.{block, blockCount, padded, overBlocks}
+use Rattle.octets.specs.Blocks.{blockCount, padded, overBlocks}
 use Rattle.octets.proofs.BlockLaws.{over-append, over-padded, length-padded}
 use Rattle.ghash.specs.Field.{mul}
 use Rattle.ghash.specs.Ghash.{step, ghashFrom}

@@ -1,7 +1,7 @@
 -- Test case 2 of the GCM specification (McGrew and Viega): a product and a hash.
 -- Assumes nothing.
 use mathlib.Core.Path.{_≡_, refl}
-use mathlib.Core.List.{[], _∷_, _++_}
+use mathlib.Core.List.{_++_}
 use Rattle.octets.specs.Numbers.{bigEndianAfter, toBigEndian}
 use Rattle.octets.specs.Blocks.{zeroPadded, overBlocks}
 use Rattle.ghash.specs.Field.{timesX, product, mul}

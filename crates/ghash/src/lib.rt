@@ -17,12 +17,12 @@ pub struct Element {
     pub lo: u64,
 }
 
-// The hash key H, ready for multiplication.
+// The hash subkey H, ready for multiplication.
 pub struct HashKey {
     h: Element,
 }
 
-// The key for the subkey H.
+// Prepares the subkey that the block h writes.
 pub fn prepare(h: [u8; 16]) -> HashKey
     ensures { λ r. ⌜ Prepared r (bigEndian h) ⌝ }
 {
@@ -31,15 +31,15 @@ pub fn prepare(h: [u8; 16]) -> HashKey
     }
 }
 
-// Y₀.
+// 6.4, step 2: Y₀.
 pub fn start() -> Element
     ensures { λ r. ⌜ elementOf r ≡ 0 ⌝ }
 {
     Element { hi: 0, lo: 0 }
 }
 
-// One block: (y ⊕ x) • H.
-fn absorb(k: HashKey, y: Element, x: Element) -> Element
+// 6.4, step 3: (y ⊕ x) • H.
+fn step(k: HashKey, y: Element, x: Element) -> Element
     ensures { λ r. ⌜ ((h : ℕ) → Prepared k h → elementOf r ≡ mul (bitXor (elementOf y) (elementOf x)) h) ⌝ }
 {
     let h = k.h;
@@ -53,7 +53,7 @@ pub fn update(k: HashKey, y: Element, s: &[u8]) -> Element
     let mut z = y;
     let mut at: usize = 0;
     while at < s.len() {
-        z = absorb(k, z, load::block(s, at));
+        z = step(k, z, load::block(s, at));
         at += octets::blocks::at_most_16(s.len() - at);
     }
     z
@@ -63,7 +63,7 @@ pub fn update(k: HashKey, y: Element, s: &[u8]) -> Element
 pub fn update_lengths(k: HashKey, y: Element, a: u64, b: u64) -> Element
     ensures { λ r. ⌜ ((h : ℕ) → Prepared k h → elementOf r ≡ ghashFrom h (elementOf y) (toBigEndian 8 a ++ toBigEndian 8 b)) ⌝ }
 {
-    absorb(k, y, Element { hi: a, lo: b })
+    step(k, y, Element { hi: a, lo: b })
 }
 
 // The block that an element is.

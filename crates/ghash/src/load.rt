@@ -1,9 +1,9 @@
 // Elements read from bytes.
 use crate::Element;
 ghost use mathlib.Core.Path.{_≡_};
-ghost use Prim.Native.Nat.{_+_, _≤_, _<_};
+ghost use Prim.Native.Nat.{_+_, _≤_};
 ghost use lib.ListN.{length, drop};
-ghost use Rattle.octets.specs.Numbers.{bigEndian, bytesAt};
+ghost use Rattle.octets.specs.Numbers.{bigEndian};
 ghost use Rattle.octets.specs.Blocks.{zeroPadded};
 ghost use Rattle.ghash.specs.Elements.{elementOf};
 

@@ -28,8 +28,8 @@ loop-holds c = ((λ h p. refl), omega arith)
 block-requires : tie.Need-block-requires Inv-loop μ-loop
 block-requires c κs = omega arith
 
-absorb-requires : tie.Need-absorb-requires Inv-loop μ-loop
-absorb-requires c κs = search needs
+step-requires : tie.Need-step-requires Inv-loop μ-loop
+step-requires c κs = search needs
 
 sub-at-most-16 : tie.Need-sub-at-most-16 Inv-loop μ-loop
 sub-at-most-16 c = omega arith
@@ -52,7 +52,7 @@ loop-again c =
     let m = c .at-most-16 in (
       (λ h p.
           over-turn (step h) (elementOf (a .y)) s (k .loop .at) (m .result) (elementOf (k .loop .z)) _ (k .loop .inv .1) (t .loop-test .taken) (m .ensures) (k .loop .inv .0 h p)
-          (c .before .absorb .ensures h p ∙ ap (λ (x : ℕ). mul (bitXor (elementOf (k .loop .z)) x) h) (c .before .before .block .ensures))),
+          (c .before .step .ensures h p ∙ ap (λ (x : ℕ). mul (bitXor (elementOf (k .loop .z)) x) h) (c .before .before .block .ensures))),
       block-turn (k .loop .at) (length s) (m .result) (k .loop .inv .1) (t .loop-test .taken) (m .ensures),
     )
 
@@ -72,7 +72,7 @@ update-spec =
     μ-loop
     loop-holds
     block-requires
-    absorb-requires
+    step-requires
     sub-at-most-16
     at-most-16-requires
     add-at

@@ -5,13 +5,13 @@ use Rattle.ghash.proofs.GhashLaws.{ghash-pair}
 use Rattle.ghash.proofs.update_lengths.Statement.{statement}
 use Rattle.ghash.proofs.update_lengths.Tie as tie
 
-absorb-requires : tie.Need-absorb-requires
-absorb-requires c κs = search needs
+step-requires : tie.Need-step-requires
+step-requires c κs = search needs
 
 returns : tie.Need-returns
 returns c =
     let args = c .before .args in
-    λ h p. ghash-pair h (elementOf (args .y)) (args .a) (args .b) _ (search needs) (search needs) (c .absorb .ensures h p)
+    λ h p. ghash-pair h (elementOf (args .y)) (args .a) (args .b) _ (search needs) (search needs) (c .step .ensures h p)
 
 pub update-lengths-spec : {M : Type 1} → statement M
-update-lengths-spec = tie.close (tie.spec absorb-requires returns)
+update-lengths-spec = tie.close (tie.spec step-requires returns)

@@ -2,8 +2,8 @@
 use mathlib.Core.Path.{ap₂, _∙_}
 use borrow.Author.Needs.{needs}
 use Rattle.ghash.specs.Field.{mul}
-use Rattle.ghash.proofs.absorb.Statement.{statement}
-use Rattle.ghash.proofs.absorb.Tie as tie
+use Rattle.ghash.proofs.step.Statement.{statement}
+use Rattle.ghash.proofs.step.Tie as tie
 
 add-requires : tie.Need-add-requires
 add-requires c κs = search needs
@@ -14,5 +14,5 @@ multiply-requires c κs = search needs
 returns : tie.Need-returns
 returns c = λ h p. c .multiply .ensures ∙ ap₂ mul (c .before .add .ensures) (p .element)
 
-pub absorb-spec : {M : Type 1} → statement M
-absorb-spec = tie.close (tie.spec add-requires multiply-requires returns)
+pub step-spec : {M : Type 1} → statement M
+step-spec = tie.close (tie.spec add-requires multiply-requires returns)
