@@ -34,7 +34,13 @@ word-requires : tie.Need-word-requires
 word-requires c κs = search needs
 
 returns : tie.Need-returns
-returns c = named (c .word .ensures) (c .before .before .before .before .before .before .before .sub-byte .ensures ∙ ap sbox (c .before .before .before .before .before .before .before .before .low .ensures)) (c .before .before .before .before .before .sub-byte2 .ensures ∙ ap sbox (c .before .before .before .before .before .before .low2 .ensures)) (c .before .before .before .sub-byte3 .ensures ∙ ap sbox (c .before .before .before .before .low3 .ensures)) (c .before .sub-byte4 .ensures ∙ ap sbox (c .before .before .low4 .ensures))
+returns c =
+    let s3 = c .before in
+    let s2 = s3 .before .before in
+    let s1 = s2 .before .before in
+    let s0 = s1 .before .before in
+    named (c .word .ensures) (s0 .sub-byte .ensures ∙ ap sbox (s0 .before .low .ensures)) (s1 .sub-byte2 .ensures ∙ ap sbox (s1 .before .low2 .ensures))
+    (s2 .sub-byte3 .ensures ∙ ap sbox (s2 .before .low3 .ensures)) (s3 .sub-byte4 .ensures ∙ ap sbox (s3 .before .low4 .ensures))
 
 pub sub-rot-word-spec : {M : Type 1} → statement M
 sub-rot-word-spec =

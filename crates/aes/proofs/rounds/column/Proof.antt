@@ -31,7 +31,12 @@ from-row3-requires c κs = search needs
 
 returns : tie.Need-returns
 unfolding mixed
-returns c = rw (← c .before .before .before .before .before .before .before .low .ensures, ← c .before .before .before .before .before .low2 .ensures, ← c .before .before .before .low3 .ensures, ← c .before .low4 .ensures) (xor (xor (xor (xor (c .before .before .before .before .before .before .from-row0 .ensures) (c .before .before .before .before .from-row1 .ensures)) (c .before .before .from-row2 .ensures)) (c .from-row3 .ensures)) (own _))
+returns c =
+    let r2 = c .before .before in
+    let r1 = r2 .before .before in
+    let r0 = r1 .before .before in
+    rw (← r0 .before .low .ensures, ← r1 .before .low2 .ensures, ← r2 .before .low3 .ensures, ← c .before .low4 .ensures)
+    (xor (xor (xor (xor (r0 .from-row0 .ensures) (r1 .from-row1 .ensures)) (r2 .from-row2 .ensures)) (c .from-row3 .ensures)) (own _))
 
 pub column-spec : {M : Type 1} → statement M
 column-spec =

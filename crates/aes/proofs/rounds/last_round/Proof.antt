@@ -21,7 +21,9 @@ last-column-requires-4 c κs = search needs
 
 returns : tie.Need-returns
 unfolding stateOf bytesOf addRoundKey shiftRows subBytes state
-returns c = begins (c .before .before .before .last-column .ensures) (begins (c .before .before .last-column2 .ensures) (begins (c .before .last-column3 .ensures) (begins (c .last-column4 .ensures) refl)))
+returns c =
+    begins (c .before .before .before .last-column .ensures)
+    (begins (c .before .before .last-column2 .ensures) (begins (c .before .last-column3 .ensures) (begins (c .last-column4 .ensures) refl)))
 
 pub last-round-spec : {M : Type 1} → statement M
 last-round-spec =

@@ -21,7 +21,9 @@ column-requires-4 c κs = search needs
 
 returns : tie.Need-returns
 unfolding stateOf bytesOf addRoundKey mixColumns shiftRows subBytes state
-returns c = begins (c .before .before .before .column .ensures) (begins (c .before .before .column2 .ensures) (begins (c .before .column3 .ensures) (begins (c .column4 .ensures) refl)))
+returns c =
+    begins (c .before .before .before .column .ensures)
+    (begins (c .before .before .column2 .ensures) (begins (c .before .column3 .ensures) (begins (c .column4 .ensures) refl)))
 
 pub round-spec : {M : Type 1} → statement M
 round-spec =

@@ -69,7 +69,10 @@ word-requires-4 c κs = search needs
 
 returns : tie.Need-returns
 unfolding stateOf bytesOf
-returns c = begins (c .before .before .before .word .ensures) (begins (c .before .before .word2 .ensures) (begins (c .before .word3 .ensures) (begins (c .word4 .ensures) refl))) ∙ whole 16 _ (search needs)
+returns c =
+    begins (c .before .before .before .word .ensures)
+    (begins (c .before .before .word2 .ensures) (begins (c .before .word3 .ensures) (begins (c .word4 .ensures) refl)))
+    ∙ whole 16 _ (search needs)
 
 pub load-spec : {M : Type 1} → statement M
 load-spec =
