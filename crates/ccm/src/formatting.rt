@@ -7,21 +7,10 @@ ghost use Rattle.ccm.specs.Formatting.{associated};
 pub fn flags_and_nonce(flags: u8, nonce: [u8; 11]) -> [u8; 12]
     ensures { λ r. ⌜ r ≡ flags ∷ nonce ⌝ }
 {
-    let n = nonce;
-    [
-        flags,
-        n[0],
-        n[1],
-        n[2],
-        n[3],
-        n[4],
-        n[5],
-        n[6],
-        n[7],
-        n[8],
-        n[9],
-        n[10],
-    ]
+    let mut b = [0u8; 12];
+    b[0] = flags;
+    octets::runs::copy(&mut b, 1, &nonce);
+    b
 }
 
 // The associated data behind their length (A.2.2).

@@ -1,1 +1,2 @@
 pub mod CtrLaws
+pub mod TwoRuns

@@ -12,26 +12,11 @@ ghost use Rattle.ctr.specs.Ctr.{ctr, counterBlocks};
 pub fn counter_block(prefix: [u8; 12], n: u32) -> [u8; 16]
     ensures { λ r. ⌜ r ≡ prefix ++ toBigEndian 4 n ⌝ }
 {
-    let p = prefix;
     let c = octets::big_endian::u32_bytes(n);
-    [
-        p[0],
-        p[1],
-        p[2],
-        p[3],
-        p[4],
-        p[5],
-        p[6],
-        p[7],
-        p[8],
-        p[9],
-        p[10],
-        p[11],
-        c[0],
-        c[1],
-        c[2],
-        c[3],
-    ]
+    let mut b = [0u8; 16];
+    octets::runs::copy(&mut b, 0, &prefix);
+    octets::runs::copy(&mut b, 12, &c);
+    b
 }
 
 // The output block of counter n.

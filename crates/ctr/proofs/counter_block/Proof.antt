@@ -1,10 +1,11 @@
--- Right because an array of twelve bytes is made of its elements.
+-- Right because the twelve bytes and the four of the number fill the block.
 -- Assumes nothing.
-use mathlib.Core.Path.{_≡_, ap₂, sym, _∙_}
 use mathlib.Core.List.{List, _++_}
-use Prim.Native.Nat.{ℕ}
-use lib.ListN.{length}
-use Rattle.octets.proofs.Elements.{whole}
+use mathlib.Core.Path.{_≡_, ap, ap₂, sym, _∙_}
+use Prim.Native.Nat.{ℕ, _+_}
+use lib.ListN.{length, replicate}
+use lib.Seq.{paste}
+use Rattle.ctr.proofs.TwoRuns.{two-runs}
 use borrow.Author.Needs.{needs}
 use Rattle.ctr.proofs.counter_block.Statement.{statement}
 use Rattle.ctr.proofs.counter_block.Tie as tie
@@ -12,78 +13,44 @@ use Rattle.ctr.proofs.counter_block.Tie as tie
 u32-bytes-requires : tie.Need-u32-bytes-requires
 u32-bytes-requires c κs = search needs
 
-array-read-t8 : tie.Need-array-read-t8
-array-read-t8 c = search needs
+slice-aggregate-copy : tie.Need-slice-aggregate-copy
+slice-aggregate-copy c = search needs
 
-array-read-t11 : tie.Need-array-read-t11
-array-read-t11 c = search needs
+slice-aggregate-copy-2 : tie.Need-slice-aggregate-copy-2
+slice-aggregate-copy-2 c = search needs
 
-array-read-t14 : tie.Need-array-read-t14
-array-read-t14 c = search needs
+copy-requires : tie.Need-copy-requires
+copy-requires c κs = search needs
 
-array-read-t17 : tie.Need-array-read-t17
-array-read-t17 c = search needs
+slice-aggregate-copy-3 : tie.Need-slice-aggregate-copy-3
+slice-aggregate-copy-3 c = search needs
 
-array-read-t20 : tie.Need-array-read-t20
-array-read-t20 c = search needs
+slice-aggregate-copy-4 : tie.Need-slice-aggregate-copy-4
+slice-aggregate-copy-4 c = search needs
 
-array-read-t23 : tie.Need-array-read-t23
-array-read-t23 c = search needs
-
-array-read-t26 : tie.Need-array-read-t26
-array-read-t26 c = search needs
-
-array-read-t29 : tie.Need-array-read-t29
-array-read-t29 c = search needs
-
-array-read-t32 : tie.Need-array-read-t32
-array-read-t32 c = search needs
-
-array-read-t35 : tie.Need-array-read-t35
-array-read-t35 c = search needs
-
-array-read-t38 : tie.Need-array-read-t38
-array-read-t38 c = search needs
-
-array-read-t41 : tie.Need-array-read-t41
-array-read-t41 c = search needs
-
-array-read-t44 : tie.Need-array-read-t44
-array-read-t44 c = search needs
-
-array-read-t47 : tie.Need-array-read-t47
-array-read-t47 c = search needs
-
-array-read-t50 : tie.Need-array-read-t50
-array-read-t50 c = search needs
-
-array-read-t53 : tie.Need-array-read-t53
-array-read-t53 c = search needs
+copy-requires-2 : tie.Need-copy-requires-2
+copy-requires-2 c κs = search needs
 
 returns : tie.Need-returns
 returns c =
-    ap₂ (λ (p n : List ℕ). p ++ n) (whole 12 (c .before .args .prefix) (search needs))
-    (whole 4 (c .u32-bytes .result) (search needs) ∙ c .u32-bytes .ensures)
+    let p = c .before .before .before .before .before .before .before .before .before .args .t1 in
+    let u = c .before .before .before .before .before .before .before .before .u32-bytes in
+    let f = c .before .before .before .before .before .copy in
+    let lp : length p ≡ 12 = search needs in
+    let lu : length (u .result) ≡ 4 = search needs in
+    two-runs (replicate 16 0) p (u .result) (f .last .0) _ (sym (ap₂ _+_ lp lu)) (f .ensures)
+    (c .before .copy2 .ensures ∙ ap (λ (k : ℕ). paste (f .last .0) k (u .result) (length (u .result))) (sym lp))
+    ∙ ap (λ (x : List ℕ). p ++ x) (u .ensures)
 
 pub counter-block-spec : {M : Type 1} → statement M
 counter-block-spec =
     tie.close
     (tie.spec
     u32-bytes-requires
-    array-read-t8
-    array-read-t11
-    array-read-t14
-    array-read-t17
-    array-read-t20
-    array-read-t23
-    array-read-t26
-    array-read-t29
-    array-read-t32
-    array-read-t35
-    array-read-t38
-    array-read-t41
-    array-read-t44
-    array-read-t47
-    array-read-t50
-    array-read-t53
+    slice-aggregate-copy
+    slice-aggregate-copy-2
+    copy-requires
+    slice-aggregate-copy-3
+    slice-aggregate-copy-4
+    copy-requires-2
     returns)

@@ -1,62 +1,34 @@
--- Right because an array of eleven bytes is made of its elements.
+-- Right because the nonce fills the array behind the flags octet.
 -- Assumes nothing.
-use mathlib.Core.List.{List, _∷_}
-use mathlib.Core.Path.{ap}
+use mathlib.Core.List.{_∷_}
+use mathlib.Core.Path.{_≡_, _∙_}
 use Prim.Native.Nat.{ℕ}
-use Rattle.octets.proofs.Elements.{whole}
+use native.Mathlib.Omega.{arith}
+use lib.ListN.{length, replicate}
+use Rattle.octets.proofs.Paste.{paste-all}
 use borrow.Author.Needs.{needs}
 use Rattle.ccm.proofs.formatting.flags_and_nonce.Statement.{statement}
 use Rattle.ccm.proofs.formatting.flags_and_nonce.Tie as tie
 
-array-read-t6 : tie.Need-array-read-t6
-array-read-t6 c = search needs
+array-write-b : tie.Need-array-write-b
+array-write-b c = search needs
 
-array-read-t9 : tie.Need-array-read-t9
-array-read-t9 c = search needs
+slice-aggregate-copy : tie.Need-slice-aggregate-copy
+slice-aggregate-copy c = search needs
 
-array-read-t12 : tie.Need-array-read-t12
-array-read-t12 c = search needs
+slice-aggregate-copy-2 : tie.Need-slice-aggregate-copy-2
+slice-aggregate-copy-2 c = search needs
 
-array-read-t15 : tie.Need-array-read-t15
-array-read-t15 c = search needs
-
-array-read-t18 : tie.Need-array-read-t18
-array-read-t18 c = search needs
-
-array-read-t21 : tie.Need-array-read-t21
-array-read-t21 c = search needs
-
-array-read-t24 : tie.Need-array-read-t24
-array-read-t24 c = search needs
-
-array-read-t27 : tie.Need-array-read-t27
-array-read-t27 c = search needs
-
-array-read-t30 : tie.Need-array-read-t30
-array-read-t30 c = search needs
-
-array-read-t33 : tie.Need-array-read-t33
-array-read-t33 c = search needs
-
-array-read-t36 : tie.Need-array-read-t36
-array-read-t36 c = search needs
+copy-requires : tie.Need-copy-requires
+copy-requires c κs = search needs
 
 returns : tie.Need-returns
-returns c = ap (λ (l : List ℕ). c .args .flags ∷ l) (whole 11 (c .args .nonce) (search needs))
+returns c =
+    let a = c .before .before .before .before .args in
+    let l : length (a .t2) ≡ 11 = search needs in
+    c .before .copy .ensures ∙ paste-all (a .flags ∷ replicate 11 0) 1 (a .t2) (omega arith)
 
 pub flags-and-nonce-spec : {M : Type 1} → statement M
 flags-and-nonce-spec =
     tie.close
-    (tie.spec
-    array-read-t6
-    array-read-t9
-    array-read-t12
-    array-read-t15
-    array-read-t18
-    array-read-t21
-    array-read-t24
-    array-read-t27
-    array-read-t30
-    array-read-t33
-    array-read-t36
-    returns)
+    (tie.spec array-write-b slice-aggregate-copy slice-aggregate-copy-2 copy-requires returns)
