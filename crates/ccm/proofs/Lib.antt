@@ -1,4 +1,4 @@
-pub mod Laws
+pub mod CcmLaws
 pub mod Formatted
 pub mod Tag
 pub mod Opening

@@ -1,13 +1,14 @@
 -- The two ways out of opening: the tag is right, or the key stream is applied again.
 -- Assumes nothing.
-use mathlib.Core.Bool.{Bool, true, false}
+use mathlib.Core.Bool.{true, false}
 use mathlib.Core.List.{List}
 use mathlib.Core.Path.{_≡_, ap, _∙_}
 use Prim.Native.Nat.{ℕ}
 use Rattle.octets.specs.Same.{sameBytes}
-use Rattle.ccm.specs.Ccm.{encrypt, tag, Opened}
+use Rattle.ccm.specs.Calls.{Opened}
+use Rattle.ccm.specs.Ccm.{encrypt, tag}
 use Rattle.ccm.specs.General as general
-use Rattle.ccm.proofs.Laws.{encrypt-twice}
+use Rattle.ccm.proofs.CcmLaws.{encrypt-twice}
 
 module _ (E : List ℕ → List ℕ) (nonce aad received body mid u : List ℕ) (em : mid ≡ encrypt E nonce body) (eu : u ≡ tag E nonce aad mid) where
   pub opened-right : sameBytes received u ≡ true → Opened E nonce aad received body mid true

@@ -1,11 +1,10 @@
 -- The tag, from what the code computes on the way.
 -- Assumes nothing.
 use mathlib.Core.List.{List, _∷_, _++_}
-use mathlib.Core.Path.{_≡_, refl, sym, ap, ap₂, _∙_}
+use mathlib.Core.Path.{_≡_, sym, ap, ap₂, _∙_}
 use Prim.Native.Nat.{ℕ, suc, _+_}
 use native.Mathlib.Nat.{le-of-eq}
-use native.Mathlib.Omega.{arith}
-use lib.ListN.{length, length-append, replicate, take}
+use lib.ListN.{length, length-append, replicate}
 use lib.Seq.{take-all}
 use Rattle.octets.specs.Blocks.{blockCount}
 use Rattle.octets.specs.Numbers.{toBigEndian}
@@ -15,7 +14,7 @@ use Rattle.cbc_mac.specs.CbcMac.{cbcMac}
 use Rattle.ccm.specs.Formatting.{flags, firstBlock, associated, formatted, counterBlock}
 use Rattle.ccm.specs.General.{mac, tag}
 use Rattle.ccm.proofs.Formatted.{first-flags, over-formatted}
-use Rattle.ccm.proofs.Laws.{length-mac}
+use Rattle.ccm.proofs.CcmLaws.{length-mac}
 
 module _ (E : List ℕ → List ℕ) (nonce aad text : List ℕ) (hn : length nonce ≡ 11) (ha : length aad ≡ 32) where
   first-right : (first : List ℕ) → first ≡ 0x7B ∷ nonce ++ toBigEndian 4 (length text) → first ≡ firstBlock 4 16 nonce (length aad) (length text)

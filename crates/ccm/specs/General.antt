@@ -26,7 +26,8 @@ tag E q t nonce aad text = xor (take t (mac E q t nonce aad text)) (take t (E (c
 unfoldable pub encrypt : (List ℕ → List ℕ) → ℕ → List ℕ → List ℕ → List ℕ
 encrypt E q nonce text = ctr E (λ j. counterBlock q nonce (1 + j)) text
 
--- 6.2: the payload, if the tag is its
+-- 6.2: the payload, if the tag received is its. Step 10 compares with MSB_t(Y_r) once S₀ is taken off the tag; here both sides still have it.
+-- Step 1, on a ciphertext with no payload, is the caller's, who cuts it into body and tag
 unfoldable pub decrypt : (List ℕ → List ℕ) → ℕ → ℕ → List ℕ → List ℕ → List ℕ → List ℕ → Option (List ℕ)
 decrypt E q t nonce aad received body =
     let text = encrypt E q nonce body in

@@ -1,3 +1,4 @@
 pub mod Formatting
 pub mod General
 pub mod Ccm
+pub mod Calls

@@ -6,7 +6,8 @@ ghost use Prim.Native.Nat.{_<_};
 ghost use lib.ListN.{length};
 ghost use Rattle.aes.specs.Words.{SubMixTable};
 ghost use Rattle.ctr.specs.BlockCipher.{blockCipher};
-ghost use Rattle.ccm.specs.Ccm.{encrypt, tag, longest, Sealed, Opened};
+ghost use Rattle.ccm.specs.Calls.{longest, Sealed, Opened};
+ghost use Rattle.ccm.specs.Ccm.{encrypt, tag};
 
 fn tag_of(
     t: &[u32; 256],

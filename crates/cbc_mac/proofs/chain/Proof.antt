@@ -2,14 +2,14 @@
 -- Assumes nothing.
 use mathlib.Core.Path.{_≡_, refl, ap, _∙_}
 use mathlib.Core.List.{List}
-use Prim.Native.Nat.{ℕ, _+_, _-_, _*_, _≤_, min}
+use Prim.Native.Nat.{ℕ, _+_, _-_, _*_, _≤_}
 use native.Mathlib.Omega.{arith}
 use borrow.Author.Needs.{needs}
 use denote.Ref.{now}
-use lib.ListN.{length, drop}
-use Rattle.octets.specs.Blocks.{blockCount, overBlocks, zeroPadded}
+use lib.ListN.{length}
+use Rattle.octets.specs.Blocks.{blockCount, overBlocks}
 use Rattle.octets.specs.Xor.{xor}
-use Rattle.octets.proofs.BlockLaws.{AtBlock, over-turn}
+use Rattle.octets.proofs.BlockLaws.{over-turn}
 use Rattle.ctr.specs.BlockCipher.{blockCipher}
 use Rattle.cbc_mac.specs.CbcMac.{cbcMac}
 use Rattle.cbc_mac.proofs.chain.Statement.{statement}
@@ -44,7 +44,8 @@ loop-again : tie.Need-loop-again Inv-loop μ-loop
 loop-again c =
     let k = c .before .before .before in
     let a = k .before .before .args in (
-      over-turn (λ y x. blockCipher (now (a .keys)) (xor y x)) (a .y) (now (a .s)) (k .loop .at) 16 (k .loop .z) _ (omega arith, omega arith) (omega arith) (omega arith) (k .loop .inv .0)
+      over-turn (λ y x. blockCipher (now (a .keys)) (xor y x)) (a .y) (now (a .s)) (k .loop .at) 16 (k .loop .z) _
+          (omega arith, omega arith) (omega arith) (omega arith) (k .loop .inv .0)
           (c .next .ensures ∙ ap (λ (x : List ℕ). blockCipher (now (a .keys)) (xor (k .loop .z) x)) (c .before .block-at .ensures)),
       omega arith,
       omega arith,
@@ -62,7 +63,8 @@ returns c =
     let a = k .before .before .args in
     let m : ℕ = length (now (a .s)) - k .loop .at in
     let e : k .loop .at + m ≡ length (now (a .s)) = omega arith in
-    over-turn (λ y x. blockCipher (now (a .keys)) (xor y x)) (a .y) (now (a .s)) (k .loop .at) m (k .loop .z) _ (omega arith, omega arith) (omega arith) (omega arith) (k .loop .inv .0)
+    over-turn (λ y x. blockCipher (now (a .keys)) (xor y x)) (a .y) (now (a .s)) (k .loop .at) m (k .loop .z) _
+    (omega arith, omega arith) (omega arith) (omega arith) (k .loop .inv .0)
     (c .next2 .ensures ∙ ap (λ (x : List ℕ). blockCipher (now (a .keys)) (xor (k .loop .z) x)) (c .before .block-at2 .ensures))
     ∙ ap (λ (n : ℕ). cbcMac (blockCipher (now (a .keys))) (a .y) (now (a .s)) (blockCount n)) e
 

@@ -29,7 +29,8 @@ returns c =
     let u = i .before .before .tag-of in
     let m = i .before .before .before .before .before .before .before .xor-key-stream in
     let a = i .before .before .before .before .before .before .before .before .before .before .before .before .args in
-    opened-right (blockCipher (now (a .keys))) (a .nonce) (a .aad) (a .tag) (now (a .text)) (m .last .1 .1 .1 .0) (u .result) (m .ensures) (u .ensures) (sym (i .before .same-16 .ensures) ∙ i .if1 .taken)
+    opened-right (blockCipher (now (a .keys))) (a .nonce) (a .aad) (a .tag) (now (a .text))
+    (m .last .1 .1 .1 .0) (u .result) (m .ensures) (u .ensures) (sym (i .before .same-16 .ensures) ∙ i .if1 .taken)
 
 xor-key-stream-requires-2 : tie.Need-xor-key-stream-requires-2
 xor-key-stream-requires-2 c κs = search needs
@@ -43,7 +44,8 @@ returns-2 c =
     let u = i .before .before .tag-of in
     let m = i .before .before .before .before .before .before .before .xor-key-stream in
     let a = i .before .before .before .before .before .before .before .before .before .before .before .before .args in
-    opened-wrong (blockCipher (now (a .keys))) (a .nonce) (a .aad) (a .tag) (now (a .text)) (m .last .1 .1 .1 .0) (u .result) (m .ensures) (u .ensures) _ (sym (i .before .same-16 .ensures) ∙ i .if1 .left) (c .before .before .xor-key-stream2 .ensures)
+    opened-wrong (blockCipher (now (a .keys))) (a .nonce) (a .aad) (a .tag) (now (a .text))
+    (m .last .1 .1 .1 .0) (u .result) (m .ensures) (u .ensures) _ (sym (i .before .same-16 .ensures) ∙ i .if1 .left) (c .before .before .xor-key-stream2 .ensures)
 
 pub open-spec : {M : Type 1} → statement M
 open-spec =

@@ -50,7 +50,8 @@ loop-again c =
     let g = c .before .before .before .key-stream in
     let k = c .before .before .before .before .before .before in
     let a = k .before .before .args in (
-      counter-turn (blockCipher (now (a .keys))) (a .prefix) (a .first) (k .loop .n) (now (a .text)) (k .loop .i) 16 (g .result) (k .loop .text) _ (omega arith) (omega arith) (omega arith) (omega arith) (g .ensures) (k .loop .inv .0) (x .ensures),
+      counter-turn (blockCipher (now (a .keys))) (a .prefix) (a .first) (k .loop .n) (now (a .text)) (k .loop .i) 16 (g .result) (k .loop .text) _
+          (omega arith) (omega arith) (omega arith) (omega arith) (g .ensures) (k .loop .inv .0) (x .ensures),
       omega arith,
       omega arith,
       omega arith,
@@ -77,7 +78,8 @@ returns c =
     let a = k .before .before .args in
     let m : ℕ = length (k .loop .text) - k .loop .i in
     ctr-end (blockCipher (now (a .keys))) (counterBlocks (a .prefix) (a .first)) (now (a .text)) (k .loop .i + m) _ (omega arith)
-    (counter-turn (blockCipher (now (a .keys))) (a .prefix) (a .first) (k .loop .n) (now (a .text)) (k .loop .i) m (g .result) (k .loop .text) _ (omega arith) (omega arith) (omega arith) (omega arith) (g .ensures) (k .loop .inv .0) (x .ensures))
+    (counter-turn (blockCipher (now (a .keys))) (a .prefix) (a .first) (k .loop .n) (now (a .text)) (k .loop .i) m (g .result) (k .loop .text) _
+    (omega arith) (omega arith) (omega arith) (omega arith) (g .ensures) (k .loop .inv .0) (x .ensures))
 
 same-length-2 : tie.Need-same-length-2 Inv-loop μ-loop
 same-length-2 c = omega arith

@@ -1,14 +1,14 @@
 -- Laws of CCM that the layer above cites: lengths, and that decryption gives back what was encrypted.
 -- Assumes nothing.
 use mathlib.Core.Bool.{Bool, true, false, cond}
-use mathlib.Core.List.{List, []}
-use mathlib.Core.Option.{Option, none, some}
+use mathlib.Core.List.{List}
+use mathlib.Core.Option.{none, some}
 use mathlib.Core.Path.{_≡_, refl, sym, ap, _∙_}
 use Prim.Native.Nat.{ℕ, zero, suc, _+_, _≤_}
 use native.Mathlib.Omega.{arith}
 use lib.ListN.{length, replicate, take}
 use lib.Seq.{length-take-le}
-use Rattle.octets.specs.Blocks.{blockCount, overBlocks}
+use Rattle.octets.specs.Blocks.{overBlocks}
 use Rattle.octets.specs.Same.{sameBytes}
 use Rattle.octets.proofs.SameLaws.{same-self}
 use Rattle.octets.proofs.XorWith.{length-xor}
