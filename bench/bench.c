@@ -3,6 +3,8 @@
  *
  * OpenSSL reads which instructions it may use from OPENSSL_ia32cap as it is loaded, so each setting is a process of its own:
  * the program starts itself once for each column. mbedTLS asks mbedtls_aesni_has_support, which this program answers itself.
+ *
+ * Usage: bench [FILE.csv]
  */
 #define _GNU_SOURCE
 #include <mbedtls/aes.h>
@@ -21,12 +23,12 @@
 #include "../tests/primitives.h"
 
 enum { SHA256, SHA512, CTR, CCM, GCM, WORKS };
-enum { OURS, MBEDTLS, OPENSSL_SCALAR, OPENSSL_SIMD, OPENSSL_HARDWARE, COLUMNS };
+enum { OURS, MBEDTLS, OPENSSL_SCALAR, OPENSSL_SSSE3, OPENSSL_HARDWARE, COLUMNS };
 
 static const char *const work_names[WORKS] = {"SHA-256", "SHA-512", "AES-128-CTR", "AES-128-CCM", "AES-128-GCM"};
 static const char *const column_names[COLUMNS] = {"smb3seal", "mbedTLS software", "OpenSSL scalar",
-                                                  "OpenSSL SIMD, no AES-NI", "OpenSSL hardware"};
-/* scalar: no extension at all; SIMD: all but AES-NI and PCLMULQDQ; hardware: as the machine is */
+                                                  "OpenSSL SSSE3, no AES-NI", "OpenSSL hardware"};
+/* scalar: no extension at all; SSSE3: its first capability word without AES-NI and PCLMULQDQ; hardware: as the machine is */
 static const char *const capabilities[COLUMNS] = {NULL, NULL, "0:0", "~0x200000200000000", NULL};
 static const size_t sizes[] = {64, 1024, 65536, 1048576};
 enum { SIZES = sizeof sizes / sizeof sizes[0] };
@@ -143,67 +145,95 @@ static void run(int column, int work, size_t n)
 static double now(void)
 {
     struct timespec t;
-    clock_gettime(CLOCK_MONOTONIC, &t);
+    clock_gettime(CLOCK_PROCESS_CPUTIME_ID, &t);
     return (double)t.tv_sec + 1e-9 * (double)t.tv_nsec;
 }
 
-/* Megabytes a second: the best of several rounds of about 30 ms each. */
+static double time_of(int column, int work, size_t n, size_t times)
+{
+    double t = now();
+    for (size_t i = 0; i < times; i++) run(column, work, n);
+    return now() - t;
+}
+
+/* Megabytes a second of processor time, over some 20 ms. */
 static double measure(int column, int work, size_t n)
 {
-    size_t times = 1;
-    double best = 0, took = 0;
-    for (;; times *= 2) {
-        double t = now();
-        for (size_t i = 0; i < times; i++) run(column, work, n);
-        took = now() - t;
-        if (took > 0.03) break;
-    }
-    for (int round = 0; round < 5; round++) {
-        double t = now();
-        for (size_t i = 0; i < times; i++) run(column, work, n);
-        took = now() - t;
-        double speed = (double)n * (double)times / took / 1e6;
-        if (speed > best) best = speed;
-    }
-    return best;
+    static size_t times[WORKS][SIZES];
+    size_t *k = &times[work][0];
+    for (size_t s = 0; s < SIZES; s++)
+        if (sizes[s] == n) k = &times[work][s];
+    if (*k == 0)
+        for (*k = 1; time_of(column, work, n, *k) < 0.01; *k *= 2) {}
+    return (double)n * (double)*k / time_of(column, work, n, *k) / 1e6;
 }
 
-/* One column in this process, its figures to the pipe. */
-static int child(int column, int out)
+struct question {
+    int work, size;
+};
+
+/* One column in this process: answers questions until there are no more. */
+static int child(int column, int in, int out)
 {
-    double figures[WORKS][SIZES];
-    for (int w = 0; w < WORKS; w++)
-        for (size_t s = 0; s < SIZES; s++) figures[w][s] = measure(column, w, sizes[s]);
-    return write(out, figures, sizeof figures) == (ssize_t)sizeof figures ? 0 : 1;
+    struct question q;
+    while (read(in, &q, sizeof q) == (ssize_t)sizeof q) {
+        double speed = measure(column, q.work, sizes[q.size]);
+        if (write(out, &speed, sizeof speed) != (ssize_t)sizeof speed) return 1;
+    }
+    return 0;
 }
 
-static void column_of(const char *self, int column, double figures[WORKS][SIZES])
+struct peer {
+    pid_t pid;
+    int in, out;
+};
+
+static struct peer start(int column)
 {
-    int ends[2], status = 0;
-    char which[8], fd[16];
-    if (pipe(ends) != 0) fail("pipe");
+    int questions[2], answers[2];
+    char which[8], in[16], out[16];
+    if (pipe(questions) != 0 || pipe(answers) != 0) fail("pipe");
     snprintf(which, sizeof which, "%d", column);
-    snprintf(fd, sizeof fd, "%d", ends[1]);
+    snprintf(in, sizeof in, "%d", questions[0]);
+    snprintf(out, sizeof out, "%d", answers[1]);
     pid_t pid = fork();
     if (pid == 0) {
+        close(questions[1]);
+        close(answers[0]);
         if (capabilities[column] != NULL) setenv("OPENSSL_ia32cap", capabilities[column], 1);
-        execl(self, self, which, fd, (char *)NULL);
+        execl("/proc/self/exe", "bench", which, in, out, (char *)NULL);
         _exit(127);
     }
-    close(ends[1]);
-    size_t got = 0, all = sizeof(double[WORKS][SIZES]);
-    ssize_t k;
-    while (got < all && (k = read(ends[0], (char *)figures + got, all - got)) > 0) got += (size_t)k;
-    close(ends[0]);
-    waitpid(pid, &status, 0);
-    if (got != all || status != 0) fail(column_names[column]);
+    close(questions[0]);
+    close(answers[1]);
+    return (struct peer){pid, answers[0], questions[1]};
+}
+
+static double ask(struct peer p, int column, int work, int size)
+{
+    struct question q = {work, size};
+    double speed = 0;
+    if (write(p.out, &q, sizeof q) != (ssize_t)sizeof q || read(p.in, &speed, sizeof speed) != (ssize_t)sizeof speed)
+        fail(column_names[column]);
+    return speed;
 }
 
 int main(int argc, char **argv)
 {
-    if (argc == 3) return child(atoi(argv[1]), atoi(argv[2]));
+    if (argc == 4) return child(atoi(argv[1]), atoi(argv[2]), atoi(argv[3]));
     static double figures[COLUMNS][WORKS][SIZES];
-    for (int c = 0; c < COLUMNS; c++) column_of("/proc/self/exe", c, figures[c]);
+    struct peer peers[COLUMNS];
+    for (int c = 0; c < COLUMNS; c++) peers[c] = start(c);
+    /* The columns take turns, so that what else the machine does falls on all of them alike; the best of seven counts. */
+    for (int w = 0; w < WORKS; w++)
+        for (int s = 0; s < SIZES; s++)
+            for (int round = 0; round < 7; round++)
+                for (int c = 0; c < COLUMNS; c++) {
+                    double speed = ask(peers[c], c, w, s);
+                    if (speed > figures[c][w][s]) figures[c][w][s] = speed;
+                }
+    for (int c = 0; c < COLUMNS; c++) close(peers[c].out);
+    for (int c = 0; c < COLUMNS; c++) waitpid(peers[c].pid, NULL, 0);
 
     FILE *csv = argc == 2 ? fopen(argv[1], "w") : NULL;
     if (csv != NULL) fprintf(csv, "work,bytes,column,megabytes_per_second,ours_to_it\n");
