@@ -1,10 +1,12 @@
-// SHA-256 and SHA-512.
+// SHA-256, SHA-512, HMAC-SHA-256 and the key derivation of SP 800-108.
 ghost use mathlib.Core.Path.{_≡_};
 ghost use lib.Dec.{eqb};
 ghost use lib.ListN.{length};
 ghost use Rattle.sha2.specs.Sha2.{hash};
 ghost use Rattle.sha2.specs.Sha256.{sha256};
 ghost use Rattle.sha2.specs.Sha512.{sha512};
+ghost use Rattle.hmac.specs.Hmac as fips198;
+ghost use Rattle.kdf.specs.CounterMode.{deriveSha256};
 ghost use Rattle.primitives.specs.Exports.{Writes};
 
 #[no_mangle]
@@ -26,6 +28,35 @@ pub extern "C" fn primitives_sha512(message: &[u8], digest: &mut [u8]) -> u32
     if digest.len() == 64 {
         let value = sha512::hash(message);
         octets::runs::copy(digest, 0, &value);
+        return 0;
+    }
+    40
+}
+
+#[no_mangle]
+pub extern "C" fn primitives_hmac(key: &[u8], message: &[u8], code: &mut [u8]) -> u32
+    ensures { λ r. ⌜ Writes (eqb (length (now (code .entry))) 32) (fips198.hmac sha256 (now (key .entry)) (now (message .entry))) (now (code .entry)) (now (code .exit)) r ⌝ }
+{
+    if code.len() == 32 {
+        let value = hmac::hmac(key, message);
+        octets::runs::copy(code, 0, &value);
+        return 0;
+    }
+    40
+}
+
+#[no_mangle]
+pub extern "C" fn primitives_kdf(
+    key: &[u8],
+    label: &[u8],
+    context: &[u8],
+    derived: &mut [u8],
+) -> u32
+    ensures { λ r. ⌜ Writes (eqb (length (now (derived .entry))) 16) (deriveSha256 16 (now (key .entry)) (now (label .entry)) (now (context .entry))) (now (derived .entry)) (now (derived .exit)) r ⌝ }
+{
+    if derived.len() == 16 {
+        let value = kdf::derive_16(key, label, context);
+        octets::runs::copy(derived, 0, &value);
         return 0;
     }
     40

@@ -57,3 +57,33 @@ pub fn sha512_pieces() {
     text::show(&running.finish());
     text::end_line();
 }
+
+// hmac KEY MESSAGE COUNT: the first COUNT bytes of the code.
+pub fn hmac(line: &[u8]) {
+    let mut key = [0u8; 256];
+    let k = text::bytes(line, text::after_space(line, 0), &mut key);
+    let mut message = [0u8; 256];
+    let m = text::bytes(line, k.next, &mut message);
+    let mut count = [0u8; 1];
+    text::bytes(line, m.next, &mut count);
+    let code = hmac::hmac(text::prefix(&key, k.len), text::prefix(&message, m.len));
+    text::show(text::prefix(&code, text::wide(count[0])));
+    text::end_line();
+}
+
+// kdf KEY LABEL CONTEXT: the 16 bytes derived.
+pub fn kdf(line: &[u8]) {
+    let mut key = [0u8; 64];
+    let k = text::bytes(line, text::after_space(line, 0), &mut key);
+    let mut label = [0u8; 64];
+    let l = text::bytes(line, k.next, &mut label);
+    let mut context = [0u8; 64];
+    let c = text::bytes(line, l.next, &mut context);
+    let derived = kdf::derive_16(
+        text::prefix(&key, k.len),
+        text::prefix(&label, l.len),
+        text::prefix(&context, c.len),
+    );
+    text::show_16(derived);
+    text::end_line();
+}

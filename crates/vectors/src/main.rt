@@ -15,6 +15,10 @@ fn run(line: &[u8]) {
         hashes::sha256_pieces();
     } else if text::is(line, b"sha512-pieces ") {
         hashes::sha512_pieces();
+    } else if text::is(line, b"hmac ") {
+        hashes::hmac(line);
+    } else if text::is(line, b"kdf ") {
+        hashes::kdf(line);
     } else if text::is(line, b"expand ") {
         block_cipher::expand(line);
     } else if text::is(line, b"encrypt ") {

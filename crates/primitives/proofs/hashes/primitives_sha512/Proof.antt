@@ -20,7 +20,7 @@ same-length : tie.Need-same-length
 same-length c = search needs
 
 returns : tie.Need-returns
-returns c = let a = c .before .before .before .before .before .before .before .before .before .args in let v : length (c .before .before .before .before .before .hash .result) ≡ 64 = c .before .before .before .before .before .hash .ok .1 .0 .1 in writes _ _ _ _ (eq-eqb _ 64 (c .before .before .before .before .before .before .if1 .taken)) (filled _ _ _ (omega arith) (c .before .before .copy .ensures) ∙ c .before .before .before .before .before .hash .ensures)
+returns c = let v : length (c .before .before .before .before .before .hash .result) ≡ 64 = c .before .before .before .before .before .hash .ok .1 .0 .1 in writes _ _ _ _ (eq-eqb _ 64 (c .before .before .before .before .before .before .if1 .taken)) (filled _ _ _ (omega arith) (c .before .before .copy .ensures) ∙ c .before .before .before .before .before .hash .ensures)
 
 returns-2 : tie.Need-returns-2
 returns-2 c = writes-not _ _ _ (ne-eqb _ 64 (c .if1 .left))

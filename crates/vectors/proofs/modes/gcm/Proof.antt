@@ -4,79 +4,55 @@ use lib.Seq.{length-take-le}
 use borrow.Author.Needs.{needs}
 use Rattle.vectors.proofs.modes.gcm.Statement.{statement}
 use Rattle.vectors.proofs.modes.gcm.Tie as tie
-use Rattle.vectors.proofs.modes.gcm.Reads as reads
-use Rattle.vectors.proofs.modes.gcm.Lts as lts
-use Rattle.aes.proofs.expand_key.Reads as expand-key-reads
-use Rattle.vectors.proofs.modes.gcm_there_and_back.Reads as gcm-there-and-back-reads
-use Rattle.vectors.proofs.text.after_space.Reads as after-space-reads
-use Rattle.vectors.proofs.text.bytes.Reads as bytes-reads
-use Rattle.vectors.proofs.text.prefix.Reads as prefix-reads
 
--- src/modes.rt:44:31
 after-space-requires : tie.Need-after-space-requires
 after-space-requires c κs = search needs
 
--- src/modes.rt:44:59
 slice-aggregate-bytes : tie.Need-slice-aggregate-bytes
 slice-aggregate-bytes c = search needs
 
--- src/modes.rt:44:9
 bytes-requires : tie.Need-bytes-requires
 bytes-requires c κs = search needs
 
--- src/modes.rt:46:39
 slice-aggregate-bytes-2 : tie.Need-slice-aggregate-bytes-2
 slice-aggregate-bytes-2 c = search needs
 
--- src/modes.rt:46:9
 bytes-requires-2 : tie.Need-bytes-requires-2
 bytes-requires-2 c κs = search needs
 
--- src/modes.rt:48:39
 slice-aggregate-bytes-3 : tie.Need-slice-aggregate-bytes-3
 slice-aggregate-bytes-3 c = search needs
 
--- src/modes.rt:48:9
 bytes-requires-3 : tie.Need-bytes-requires-3
 bytes-requires-3 c κs = search needs
 
--- src/modes.rt:50:39
 slice-aggregate-bytes-4 : tie.Need-slice-aggregate-bytes-4
 slice-aggregate-bytes-4 c = search needs
 
--- src/modes.rt:50:9
 bytes-requires-4 : tie.Need-bytes-requires-4
 bytes-requires-4 c κs = search needs
 
--- src/modes.rt:52:16
 expand-key-requires : tie.Need-expand-key-requires
 expand-key-requires c κs = search needs
 
--- src/modes.rt:53:24
 slice-aggregate-gcm-there-and-back : tie.Need-slice-aggregate-gcm-there-and-back
 slice-aggregate-gcm-there-and-back c = search needs
 
--- src/modes.rt:53:51
 slice-aggregate-prefix : tie.Need-slice-aggregate-prefix
 slice-aggregate-prefix c = search needs
 
--- src/modes.rt:53:38
 prefix-requires : tie.Need-prefix-requires
 prefix-requires c κs = search needs
 
--- src/modes.rt:53:65
 array-borrow-prefix-message : tie.Need-array-borrow-prefix-message
 array-borrow-prefix-message c = search needs
 
--- src/modes.rt:53:65
 slice-aggregate-gcm-there-and-back-2 : tie.Need-slice-aggregate-gcm-there-and-back-2
 slice-aggregate-gcm-there-and-back-2 c = sym (length-take-le _ _ (omega (arith, c .before .before .before .before .before .before .bytes4 .kept, c .before .before .before .before .before .before .bytes4 .ensures)))
 
--- src/modes.rt:53:5
 gcm-there-and-back-requires : tie.Need-gcm-there-and-back-requires
 gcm-there-and-back-requires c κs = (search needs, omega (arith, c .before .prefix .ensures, c .before .before .before .before .before .before .before .before .before .bytes3 .kept), omega (arith, length-take-le (c .before .before .before .before .before .before .bytes4 .result .len) (c .before .before .before .before .before .before .bytes4 .last .1 .1 .0) (omega (arith, c .before .before .before .before .before .before .bytes4 .kept, c .before .before .before .before .before .before .bytes4 .ensures)), c .before .before .before .before .before .before .bytes4 .kept, c .before .before .before .before .before .before .bytes4 .ensures))
 
--- src/modes.rt:42:1
 returns : tie.Need-returns
 returns c = search needs
 

@@ -4,18 +4,13 @@ use lib.Seq.{length-take-le}
 use borrow.Author.Needs.{needs}
 use Rattle.vectors.proofs.text.prefix.Statement.{statement}
 use Rattle.vectors.proofs.text.prefix.Tie as tie
-use Rattle.vectors.proofs.text.prefix.Reads as reads
-use Rattle.vectors.proofs.text.prefix.Lts as lts
 
--- src/text.rt:124:23
 slice-aggregate-result : tie.Need-slice-aggregate-result
 slice-aggregate-result c = sym (length-take-le _ _ (omega arith))
 
--- src/text.rt:121:1
 returns : tie.Need-returns
 returns c = let h = length-take-le (c .before .before .args .n) (c .before .before .args .b .now) (omega arith) in omega arith
 
--- src/text.rt:121:1
 returns-2 : tie.Need-returns-2
 returns-2 c = search needs
 
