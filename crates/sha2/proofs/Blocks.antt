@@ -1,7 +1,7 @@
 -- How whole blocks are taken into a hash value: the laws of `hashBlocks` and `Hashed`.
 -- Assumes nothing.
-use mathlib.Core.Path.{_≡_, refl, sym, ap, ap₂, _∙_, subst}
-use mathlib.Core.List.{List, [], _∷_, _++_, append-assoc, append-nil}
+use mathlib.Core.Path.{_≡_, refl, sym, ap, ap₂, _∙_}
+use mathlib.Core.List.{List, [], _++_, append-assoc, append-nil}
 use Prim.Native.Nat.{ℕ, zero, suc, _+_, _-_, _*_, _/_, _≤_, _<_}
 use native.Mathlib.Nat.{suc-mul, add-mul, add-zero, add-suc, mul-div-cancel, le-of-eq}
 use native.Mathlib.Numerals.{add-one}

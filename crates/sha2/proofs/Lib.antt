@@ -5,3 +5,4 @@ pub mod Rounds
 pub mod Blocks
 pub mod Padding
 pub mod Streaming
+pub mod Loops

@@ -1,12 +1,12 @@
 -- What the code stores behind the last bytes of a message is the padding.
 -- Assumes nothing.
-use mathlib.Core.Path.{_≡_, refl, sym, ap, ap₂, _∙_}
-use mathlib.Core.List.{List, [], _∷_, _++_, append-assoc}
+use mathlib.Core.Path.{_≡_, refl, ap, ap₂, _∙_}
+use mathlib.Core.List.{List, _∷_, _++_, append-assoc}
 use Prim.Native.Nat.{ℕ, suc, _+_, _-_, _*_, _≤_}
 use native.Mathlib.Nat.{le-refl, zero-add}
 use native.Mathlib.Omega.{arith}
-use lib.ListN.{length, take, drop, set, replicate, length-set, length-append, length-replicate}
-use lib.Seq.{set-at, paste, length-paste, take-paste, take-length, take-append-add}
+use lib.ListN.{length, take, drop, set, replicate, length-append, length-replicate}
+use lib.Seq.{set-at, paste, take-paste, take-length, take-append-add}
 use Rattle.octets.specs.Numbers.{toBigEndian}
 use Rattle.octets.proofs.NumberLaws.{length-toBigEndian}
 use Rattle.octets.proofs.Paste.{take-replicate, drop-replicate}

@@ -2,7 +2,7 @@
 -- Assumes nothing.
 use mathlib.Core.Path.{_≡_, sym, ap, ap₂, _∙_, subst}
 use Prim.Native.Nat.{ℕ, _+_, _-_, _*_, _/_, _%_, _^_, _<_}
-use native.Mathlib.Nat.{mod-lt, mul-assoc, add-assoc, add-comm, add-zero, add-mul, mul-mod-left}
+use native.Mathlib.Nat.{mod-lt, mul-assoc, add-assoc, add-zero, add-mul, mul-mod-left}
 use native.Mathlib.Omega.{arith}
 use lib.Arith.{digits-lt}
 use lib.Bits.{bitXor, bitOr, or-shifted-r, xor-block, xor-mod, xor-shr, xor-lt, xor-comm}

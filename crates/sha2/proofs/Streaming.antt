@@ -1,12 +1,12 @@
 -- A hash taken in pieces, wherever the cuts fall: the laws of `Holds`.
 -- Assumes nothing.
-use mathlib.Core.Path.{_≡_, refl, sym, ap, ap₂, _∙_, subst}
-use mathlib.Core.List.{List, [], _∷_, _++_, append-assoc, append-nil}
+use mathlib.Core.Path.{_≡_, refl, sym, ap, _∙_, subst}
+use mathlib.Core.List.{List, [], _++_, append-assoc, append-nil}
 use Prim.Native.Nat.{ℕ, _+_, _-_, _*_, _/_, _%_, _^_, _≤_, _<_}
 use native.Mathlib.Nat.{le-of-eq, le-refl, mod-lt, div-add-mod', mod-add-mod, zero-mul, zero-mod, mod-self}
 use native.Mathlib.Omega.{arith}
 use lib.ListN.{length, take, drop, length-append, length-drop, take-append-drop}
-use lib.Seq.{paste, take-paste, take-length, length-take-le, take-all}
+use lib.Seq.{paste, take-paste, take-length, length-take-le}
 use Rattle.octets.proofs.Paste.{paste-all, part-all}
 use Rattle.sha2.specs.Sha2.{Sha2, blockSize, hashBlocks, digest, padding, pad, hash}
 use Rattle.sha2.specs.Running.{Hashed, Holds}

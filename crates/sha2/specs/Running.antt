@@ -1,7 +1,7 @@
 -- What the contracts of the code need and FIPS 180-4 does not have: a hash under way, and the rounds of a block under way.
 -- Assumes nothing.
 use mathlib.Core.Path.{_≡_}
-use mathlib.Core.List.{List, [], _∷_, _++_}
+use mathlib.Core.List.{List, _++_}
 use Prim.Native.Nat.{ℕ, _+_, _*_, _%_, _^_}
 use lib.ListN.{length, take}
 use Rattle.sha2.specs.Sha2.{Sha2, Working, blockSize, hashBlocks, extended, rounds}

@@ -2,7 +2,7 @@
 -- Assumes nothing.
 use mathlib.Core.List.{List, [], _∷_}
 use Prim.Native.Nat.{ℕ}
-use Rattle.sha2.specs.Sha2.{Sha2, Amounts}
+use Rattle.sha2.specs.Sha2.{Sha2}
 
 -- §4.2.2
 unfoldable pub constants256 : List ℕ

@@ -4,7 +4,6 @@ use Prim.Native.Nat.{ℕ}
 use mathlib.Core.Path.{_≡_, sym, ap, ap₂, _∙_}
 use mathlib.Core.List.{List, [], _∷_, _++_, append-assoc}
 use denote.Ref.{now}
-use Rattle.octets.specs.Numbers.{toBigEndian}
 use Rattle.sha2.specs.Sha256.{sha256}
 use Rattle.hmac.specs.Hmac.{hmac}
 use Rattle.kdf.specs.CounterMode.{fixedInput, block}

@@ -1,9 +1,8 @@
 -- Right because each hash has taken in its block of the key.
 -- Assumes nothing.
 use Prim.Native.Nat.{ℕ}
-use mathlib.Core.Path.{_≡_, sym, ap, _∙_, subst}
+use mathlib.Core.Path.{sym, ap, _∙_, subst}
 use mathlib.Core.List.{List, [], append-nil}
-use denote.Ref.{now}
 use lib.ListN.{replicate}
 use Rattle.octets.specs.Xor.{xor}
 use Rattle.sha256.specs.Code as code

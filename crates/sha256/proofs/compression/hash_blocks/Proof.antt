@@ -1,26 +1,22 @@
 -- Right because each turn takes in the next block.
 -- Assumes nothing.
-use Prim.Native.Nat.{ℕ, _-_, _*_, _/_, _≤_}
-use mathlib.Core.Path.{_≡_, refl, ap, _∙_}
+use Prim.Native.Nat.{_-_}
 use native.Mathlib.Omega.{arith}
 use denote.Ref.{now}
-use lib.ListN.{length}
-use Rattle.sha2.specs.Sha2.{hashBlocks}
-use Rattle.sha2.specs.Sha256.{sha256, constants256}
-use Rattle.sha2.proofs.Blocks.{blocks-turn}
+use Rattle.sha2.specs.Sha256.{sha256}
+use Rattle.sha2.proofs.Loops.{Taking, taking-start, taking-turn, taking-end}
 use borrow.Author.Needs.{needs}
 use Rattle.sha256.proofs.compression.hash_blocks.Statement.{statement}
 use Rattle.sha256.proofs.compression.hash_blocks.Tie as tie
 
 abbrev Inv-loop : tie.InvT-loop
-Inv-loop m k h₀ n i₀ h i = (i ≤ n) × (n ≡ length m / 64) × (k ≡ constants256) × (h ≡ hashBlocks sha256 h₀ i m)
+Inv-loop m k h₀ n i₀ h i = Taking sha256 h₀ m k n h i
 
 abbrev μ-loop : tie.MeasureT-loop
 μ-loop m k h₀ n i₀ h i = n - i
 
 loop-holds : tie.Need-loop-holds Inv-loop μ-loop
-unfolding hashBlocks
-loop-holds c = (omega arith, refl, c .before .pre, refl)
+loop-holds c = taking-start sha256 (c .before .args .hs) (now (c .before .args .m)) (now (c .before .args .k)) (c .before .pre)
 
 mul-at : tie.Need-mul-at Inv-loop μ-loop
 mul-at c = search needs
@@ -47,17 +43,10 @@ loop-less : tie.Need-loop-less Inv-loop μ-loop
 loop-less c = omega arith
 
 loop-again : tie.Need-loop-again Inv-loop μ-loop
-loop-again c =
-    let l = c .before .before .before .loop in
-    let a = c .before .before .before .before .before .args in
-    (omega arith, l .inv .1, l .inv .2, blocks-turn sha256 (a .hs) (now (a .m)) (l .h) (c .compress .result) (l .i) (l .i * 64) (l .inv .3) refl (c .compress .ensures))
+loop-again c = taking-turn sha256 (c .compress .result) (c .before .before .before .loop .inv) (c .before .before .loop-test .taken) (c .compress .ensures)
 
 returns : tie.Need-returns Inv-loop μ-loop
-returns c =
-    let l = c .before .loop in
-    let a = c .before .before .before .args in
-    let e : l .i ≡ length (now (a .m)) / 64 = omega arith in
-    l .inv .3 ∙ ap (λ (i : ℕ). hashBlocks sha256 (a .hs) i (now (a .m))) e
+returns c = taking-end sha256 (c .before .loop .inv) (c .loop-test .left)
 
 pub hash-blocks-spec : {M : Type 1} → statement M
 hash-blocks-spec =

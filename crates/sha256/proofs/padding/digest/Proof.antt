@@ -1,25 +1,23 @@
 -- Right because each turn copies the bytes of the next word.
 -- Assumes nothing.
-use Prim.Native.Nat.{_-_, _*_, _≤_}
-use mathlib.Core.Path.{_≡_, refl, _∙_}
+use Prim.Native.Nat.{_-_}
+use mathlib.Core.Path.{refl}
 use native.Mathlib.Omega.{arith}
-use lib.ListN.{length, take}
-use Rattle.sha2.specs.Sha2.{digest}
+use lib.ListN.{replicate}
 use Rattle.sha2.specs.Sha256.{sha256}
-use Rattle.sha2.proofs.Words.{digest-turn, digest-done}
+use Rattle.sha2.proofs.Loops.{Digesting, digesting-start, digesting-turn, digesting-end}
 use borrow.Author.Needs.{needs}
 use Rattle.sha256.proofs.padding.digest.Statement.{statement}
 use Rattle.sha256.proofs.padding.digest.Tie as tie
 
 abbrev Inv-loop : tie.InvT-loop
-Inv-loop hs out₀ i₀ out i = (i ≤ 8) × (length out ≡ 32) × (take (i * 4) out ≡ digest sha256 i hs)
+Inv-loop hs out₀ i₀ out i = Digesting sha256 hs out i
 
 abbrev μ-loop : tie.MeasureT-loop
 μ-loop hs out₀ i₀ out i = 8 - i
 
 loop-holds : tie.Need-loop-holds Inv-loop μ-loop
-unfolding digest
-loop-holds c = (omega arith, refl, refl)
+loop-holds c = digesting-start sha256 (c .args .t1) (replicate 32 0) refl
 
 mul-u32-bytes : tie.Need-mul-u32-bytes Inv-loop μ-loop
 mul-u32-bytes c = search needs
@@ -50,15 +48,12 @@ loop-less c = search needs
 
 loop-again : tie.Need-loop-again Inv-loop μ-loop
 loop-again c =
-    let l = c .before .before .before .before .before .before .loop in
     let b = c .before .before .before .before .u32-bytes in
     let f = c .before .copy in
-    (omega arith, f .kept .0 ∙ l .inv .1, digest-turn sha256 (c .before .before .before .before .before .before .before .args .t1) (l .out) (f .last .0) (b .result) (l .i) (l .inv .2) (b .ensures) (omega arith) (f .ensures))
+    digesting-turn sha256 (f .last .0) (b .result) (c .before .before .before .before .before .before .loop .inv) (omega arith) (c .before .before .before .before .before .loop-test .taken) (b .ensures) (f .ensures) (f .kept .0)
 
 returns : tie.Need-returns Inv-loop μ-loop
-returns c =
-    let l = c .before .loop in
-    digest-done sha256 (c .before .before .args .t1) (l .out) (l .i) 8 (l .inv .2) (omega arith) (l .inv .1)
+returns c = digesting-end sha256 (c .before .loop .inv) (c .loop-test .left)
 
 pub digest-spec : {M : Type 1} → statement M
 digest-spec =

@@ -1,11 +1,10 @@
 -- Right because the pieces, joined, are cut into the same blocks as the message.
 -- Assumes nothing.
-use Prim.Native.Nat.{_-_, _*_, _/_, _%_}
-use mathlib.Core.Path.{_≡_, refl, sym, _∙_}
+use mathlib.Core.Path.{_≡_, sym, _∙_}
 use native.Mathlib.Omega.{arith}
 use denote.Ref.{now}
 use lib.Dec.{lit<}
-use lib.ListN.{length, take, drop, length-map}
+use lib.ListN.{length, length-map}
 use lib.Seq.{length-take-le}
 use Rattle.sha2.specs.Sha512.{sha512}
 use Rattle.sha2.proofs.Streaming.{holds-within, holds-beyond}

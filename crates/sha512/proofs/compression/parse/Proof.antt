@@ -1,25 +1,21 @@
 -- Right because each turn stores the next word of the block.
 -- Assumes nothing.
-use Prim.Native.Nat.{_-_, _≤_}
-use mathlib.Core.Path.{_≡_, refl, _∙_}
+use Prim.Native.Nat.{_-_}
 use native.Mathlib.Omega.{arith}
 use denote.Ref.{now}
-use lib.ListN.{length, take, length-set}
-use Rattle.sha2.specs.Sha2.{parse}
 use Rattle.sha2.specs.Sha512.{sha512}
-use Rattle.sha2.proofs.Words.{parse-turn}
+use Rattle.sha2.proofs.Loops.{Parsing, parsing-start, parsing-turn, parsing-end}
 use Rattle.sha512.proofs.compression.parse.Statement.{statement}
 use Rattle.sha512.proofs.compression.parse.Tie as tie
 
 abbrev Inv-loop : tie.InvT-loop
-Inv-loop w₀ block i₀ w i = (i ≤ 16) × (length w ≡ 80) × (take i w ≡ parse sha512 i block)
+Inv-loop w₀ block i₀ w i = Parsing sha512 block w i
 
 abbrev μ-loop : tie.MeasureT-loop
 μ-loop w₀ block i₀ w i = 16 - i
 
 loop-holds : tie.Need-loop-holds Inv-loop μ-loop
-unfolding parse
-loop-holds c = (omega arith, c .before .pre .0, refl)
+loop-holds c = parsing-start sha512 (now (c .before .args .block)) (now (c .before .args .w)) (c .before .pre .0)
 
 mul-u64-at : tie.Need-mul-u64-at Inv-loop μ-loop
 mul-u64-at c = omega arith
@@ -40,15 +36,10 @@ loop-less : tie.Need-loop-less Inv-loop μ-loop
 loop-less c = omega arith
 
 loop-again : tie.Need-loop-again Inv-loop μ-loop
-loop-again c =
-    let l = c .before .before .loop in
-    let x = c .u64-at in
-    (omega arith, length-set (l .w) (l .i) (x .result) ∙ l .inv .1, parse-turn sha512 (now (c .before .before .before .before .args .block)) (l .w) (l .i) (x .result) (l .inv .2) (omega arith) (x .ensures))
+loop-again c = parsing-turn sha512 (c .u64-at .result) (c .before .before .loop .inv) (c .before .loop-test .taken) (c .u64-at .ensures)
 
 returns : tie.Need-returns Inv-loop μ-loop
-returns c =
-    let e : c .before .loop .i ≡ 16 = omega arith in
-    (c .before .loop .inv .1, rw e at (c .before .loop .inv .2))
+returns c = parsing-end sha512 (c .before .loop .inv) (c .loop-test .left)
 
 pub parse-spec : {M : Type 1} → statement M
 parse-spec =

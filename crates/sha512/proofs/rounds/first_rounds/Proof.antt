@@ -1,28 +1,26 @@
 -- Right because before each turn the array holds the schedule as far as it is computed, and v the rounds so far.
 -- Assumes nothing.
-use Prim.Native.Nat.{_-_, _%_, _≤_}
-use mathlib.Core.Path.{_≡_, refl}
+use Prim.Native.Nat.{_-_}
+use mathlib.Core.Path.{refl}
 use native.Mathlib.Omega.{arith}
 use denote.Ref.{now}
-use lib.ListN.{length, take}
-use Rattle.sha2.specs.Running.{Going}
-use Rattle.sha2.specs.Sha512.{sha512, constants512}
-use Rattle.sha2.proofs.Rounds.{goes-start, goes-full}
+use Rattle.sha2.specs.Sha512.{sha512}
+use Rattle.sha2.proofs.Loops.{First, first-start, first-asks, first-turn, first-end}
 use Rattle.sha512.specs.Code.{of}
 use Rattle.sha512.proofs.rounds.first_rounds.Statement.{statement}
 use Rattle.sha512.proofs.rounds.first_rounds.Tie as tie
 
 abbrev Inv-loop : tie.InvT-loop
-Inv-loop w₀ k v₀ j₀ w v j = (j ≤ 64) × (j % 8 ≡ 0) × (k ≡ constants512) × (length w ≡ 80) × Going sha512 (take 16 w₀) (of v₀) w (of v) j
+Inv-loop w₀ k v₀ j₀ w v j = First sha512 w₀ k (of v₀) w (of v) j
 
 abbrev μ-loop : tie.MeasureT-loop
 μ-loop w₀ k v₀ j₀ w v j = 64 - j
 
 loop-holds : tie.Need-loop-holds Inv-loop μ-loop
-loop-holds c = (omega arith, refl, c .pre .1, c .pre .0, goes-start sha512 (now (c .args .w)) (of (c .args .s)) (c .pre .0))
+loop-holds c = first-start sha512 (now (c .args .w)) (now (c .args .k)) (of (c .args .s)) (c .pre .0) (c .pre .1)
 
 eight-rounds-requires : tie.Need-eight-rounds-requires Inv-loop μ-loop
-eight-rounds-requires c κs = let i = c .before .before .loop .inv in (omega arith, i .3, i .2)
+eight-rounds-requires c κs = first-asks sha512 refl (c .before .before .loop .inv) (c .before .loop-test .taken)
 
 add-j : tie.Need-add-j Inv-loop μ-loop
 add-j c = omega arith
@@ -31,17 +29,10 @@ loop-less : tie.Need-loop-less Inv-loop μ-loop
 loop-less c = omega arith
 
 loop-again : tie.Need-loop-again Inv-loop μ-loop
-loop-again c =
-    let l = c .before .before .before .loop in
-    let e = c .eight-rounds .ensures in
-    (omega arith, omega arith, l .inv .2, e .0, e .1 .goes _ _ (l .inv .4))
+loop-again c = first-turn sha512 refl (c .before .before .before .loop .inv) (c .before .before .loop-test .taken) (c .eight-rounds .ensures .0) (c .eight-rounds .ensures .1)
 
 returns : tie.Need-returns Inv-loop μ-loop
-returns c =
-    let l = c .before .loop in
-    let e : l .j ≡ 64 = omega arith in
-    let g = goes-full sha512 (take 16 (now (c .before .before .args .w))) (l .w) (of (c .before .before .args .s)) (of (l .v)) (l .j) (l .inv .3) e (l .inv .4) in
-    (l .inv .3, g .0, g .1)
+returns c = first-end sha512 (c .before .loop .inv) (c .loop-test .left)
 
 pub first-rounds-spec : {M : Type 1} → statement M
 first-rounds-spec =

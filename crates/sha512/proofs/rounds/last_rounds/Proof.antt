@@ -1,25 +1,22 @@
 -- Right because each turn is the next round.
 -- Assumes nothing.
-use Prim.Native.Nat.{ℕ, _-_, _≤_}
-use mathlib.Core.Path.{_≡_, ap, _∙_}
+use Prim.Native.Nat.{_-_}
 use native.Mathlib.Omega.{arith}
 use denote.Ref.{now}
-use lib.ListN.{length}
-use Rattle.sha2.specs.Sha2.{Working, rounds}
-use Rattle.sha2.specs.Sha512.{sha512, constants512}
-use Rattle.sha2.proofs.Rounds.{round-more}
+use Rattle.sha2.specs.Sha512.{sha512}
+use Rattle.sha2.proofs.Loops.{Last, last-start, last-turn, last-end}
 use Rattle.sha512.specs.Code.{of}
 use Rattle.sha512.proofs.rounds.last_rounds.Statement.{statement}
 use Rattle.sha512.proofs.rounds.last_rounds.Tie as tie
 
 abbrev Inv-loop : tie.InvT-loop
-Inv-loop w k v₀ j₀ v j = (j ≤ 80) × (length w ≡ 80) × (k ≡ constants512) × ((x : Working) → of v₀ ≡ rounds sha512 w 64 x → of v ≡ rounds sha512 w j x)
+Inv-loop w k v₀ j₀ v j = Last sha512 w k (of v₀) (of v) j
 
 abbrev μ-loop : tie.MeasureT-loop
 μ-loop w k v₀ j₀ v j = 80 - j
 
 loop-holds : tie.Need-loop-holds Inv-loop μ-loop
-loop-holds c = (omega arith, c .pre .0, c .pre .1, λ x h. h)
+loop-holds c = last-start sha512 (now (c .args .w)) (now (c .args .k)) (of (c .args .s)) (c .pre .0) (c .pre .1)
 
 mul-round : tie.Need-mul-round Inv-loop μ-loop
 mul-round c = omega arith
@@ -43,16 +40,10 @@ loop-less : tie.Need-loop-less Inv-loop μ-loop
 loop-less c = omega arith
 
 loop-again : tie.Need-loop-again Inv-loop μ-loop
-loop-again c =
-    let l = c .before .before .before .before .loop in
-    let a = c .before .before .before .before .before .args in
-    (omega arith, l .inv .1, l .inv .2, λ x h. round-more sha512 (now (a .w)) (now (a .k)) (l .j) (of (l .v)) (of (c .round .result)) x (l .inv .3 x h) (l .inv .2) (c .round .ensures))
+loop-again c = last-turn sha512 (of (c .round .result)) (c .before .before .before .before .loop .inv) (c .before .before .before .loop-test .taken) (c .round .ensures)
 
 returns : tie.Need-returns Inv-loop μ-loop
-returns c =
-    let l = c .before .loop in
-    let e : l .j ≡ 80 = omega arith in
-    λ x h. l .inv .3 x h ∙ ap (λ (i : ℕ). rounds sha512 (now (c .before .before .args .w)) i x) e
+returns c = last-end sha512 (c .before .loop .inv) (c .loop-test .left)
 
 pub last-rounds-spec : {M : Type 1} → statement M
 last-rounds-spec =
