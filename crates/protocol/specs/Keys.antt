@@ -1,0 +1,124 @@
+-- The four keys of a session: document 01, "Keys"; MS-SMB2 3.1.4.2.
+-- `kdf` is a parameter here: key, label and context give 16 bytes. The suite puts SP 800-108 in counter mode in its place.
+-- Assumes nothing.
+use mathlib.Core.Bool.{Bool, cond, not, _||_}
+use mathlib.Core.List.{List, [], _∷_, _++_}
+use Prim.Native.Nat.{ℕ}
+use lib.Dec.{eqb}
+use lib.ListN.{length}
+use Rattle.octets.specs.Blocks.{zeroPadded}
+use Rattle.protocol.specs.Bytes.{Bytes}
+use Rattle.protocol.specs.Answer.{Test, refuse_when_, firstOf}
+
+-- 3.0, 3.0.2 and 3.1.1: "What the library covers"
+abbrev pub knownDialect : ℕ → Bool
+knownDialect d = eqb d 0x0300 || eqb d 0x0302 || eqb d 0x0311
+
+-- the first 16 bytes of the material given, padded right with zeros
+abbrev pub sessionKey : Bytes → Bytes
+sessionKey material = zeroPadded 16 material
+
+-- ---- the table's labels for 3.1.1, each with its final zero byte
+
+-- "SMBSigningKey"
+unfoldable pub smbSigningKey : Bytes
+smbSigningKey = 0x53 ∷ 0x4D ∷ 0x42 ∷ 0x53 ∷ 0x69 ∷ 0x67 ∷ 0x6E ∷ 0x69 ∷ 0x6E ∷ 0x67 ∷ 0x4B ∷ 0x65 ∷ 0x79 ∷ 0 ∷ []
+
+-- "SMBAppKey"
+unfoldable pub smbAppKey : Bytes
+smbAppKey = 0x53 ∷ 0x4D ∷ 0x42 ∷ 0x41 ∷ 0x70 ∷ 0x70 ∷ 0x4B ∷ 0x65 ∷ 0x79 ∷ 0 ∷ []
+
+-- "SMBC2SCipherKey"
+unfoldable pub smbC2SCipherKey : Bytes
+smbC2SCipherKey = 0x53 ∷ 0x4D ∷ 0x42 ∷ 0x43 ∷ 0x32 ∷ 0x53 ∷ 0x43 ∷ 0x69 ∷ 0x70 ∷ 0x68 ∷ 0x65 ∷ 0x72 ∷ 0x4B ∷ 0x65 ∷ 0x79 ∷ 0 ∷ []
+
+-- "SMBS2CCipherKey"
+unfoldable pub smbS2CCipherKey : Bytes
+smbS2CCipherKey = 0x53 ∷ 0x4D ∷ 0x42 ∷ 0x53 ∷ 0x32 ∷ 0x43 ∷ 0x43 ∷ 0x69 ∷ 0x70 ∷ 0x68 ∷ 0x65 ∷ 0x72 ∷ 0x4B ∷ 0x65 ∷ 0x79 ∷ 0 ∷ []
+
+-- ---- the table's labels for 3.0 and 3.0.2
+
+-- "SMB2AESCMAC"
+unfoldable pub smb2AesCmac : Bytes
+smb2AesCmac = 0x53 ∷ 0x4D ∷ 0x42 ∷ 0x32 ∷ 0x41 ∷ 0x45 ∷ 0x53 ∷ 0x43 ∷ 0x4D ∷ 0x41 ∷ 0x43 ∷ 0 ∷ []
+
+-- "SMB2APP"
+unfoldable pub smb2App : Bytes
+smb2App = 0x53 ∷ 0x4D ∷ 0x42 ∷ 0x32 ∷ 0x41 ∷ 0x50 ∷ 0x50 ∷ 0 ∷ []
+
+-- "SMB2AESCCM"
+unfoldable pub smb2AesCcm : Bytes
+smb2AesCcm = 0x53 ∷ 0x4D ∷ 0x42 ∷ 0x32 ∷ 0x41 ∷ 0x45 ∷ 0x53 ∷ 0x43 ∷ 0x43 ∷ 0x4D ∷ 0 ∷ []
+
+-- ---- the table's contexts for 3.0 and 3.0.2
+
+-- "SmbSign"
+unfoldable pub smbSign : Bytes
+smbSign = 0x53 ∷ 0x6D ∷ 0x62 ∷ 0x53 ∷ 0x69 ∷ 0x67 ∷ 0x6E ∷ 0 ∷ []
+
+-- "SmbRpc"
+unfoldable pub smbRpc : Bytes
+smbRpc = 0x53 ∷ 0x6D ∷ 0x62 ∷ 0x52 ∷ 0x70 ∷ 0x63 ∷ 0 ∷ []
+
+-- "ServerIn ", which ends in a space
+unfoldable pub serverIn : Bytes
+serverIn = 0x53 ∷ 0x65 ∷ 0x72 ∷ 0x76 ∷ 0x65 ∷ 0x72 ∷ 0x49 ∷ 0x6E ∷ 0x20 ∷ 0 ∷ []
+
+-- "ServerOut"
+unfoldable pub serverOut : Bytes
+serverOut = 0x53 ∷ 0x65 ∷ 0x72 ∷ 0x76 ∷ 0x65 ∷ 0x72 ∷ 0x4F ∷ 0x75 ∷ 0x74 ∷ 0 ∷ []
+
+-- ---- the keys, each of 16 bytes
+
+pub record Keys : Type 0 where
+  pub signing : Bytes
+  pub application : Bytes
+  pub clientToServer : Bytes
+  pub serverToClient : Bytes
+
+-- "writes the four keys in the order of the table"
+abbrev pub keysInOrder : Keys → Bytes
+keysInOrder k = k .signing ++ (k .application ++ (k .clientToServer ++ k .serverToClient))
+
+module _ (kdf : Bytes → Bytes → Bytes → Bytes) where
+  -- the column of 3.1.1: the context is the chain value
+  abbrev pub keys311 : Bytes → Bytes → Keys
+  keys311 chain key =
+      record {
+        signing = kdf key smbSigningKey chain;
+        application = kdf key smbAppKey chain;
+        clientToServer = kdf key smbC2SCipherKey chain;
+        serverToClient = kdf key smbS2CCipherKey chain;
+      }
+
+  -- the columns of 3.0 and 3.0.2
+  abbrev pub keys300 : Bytes → Keys
+  keys300 key =
+      record {
+        signing = kdf key smb2AesCmac smbSign;
+        application = kdf key smb2App smbRpc;
+        clientToServer = kdf key smb2AesCcm serverIn;
+        serverToClient = kdf key smb2AesCcm serverOut;
+      }
+
+  -- from the session key
+  unfoldable pub derivedKeys : ℕ → Bytes → Bytes → Keys
+  derivedKeys dialect chain key = cond (eqb dialect 0x0311) (keys311 chain key) (keys300 key)
+
+-- ---- derivation alone: dialect, chain value, key material, the place for the keys
+
+-- "Derivation alone tests 18 and 19", and 40 before them
+abbrev pub deriveTests : ℕ → Bytes → Bytes → Bytes → List Test
+deriveTests dialect chain material place =
+    (refuse 40 when not (eqb (length chain) 64) || not (eqb (length place) 64))
+    ∷ (refuse 18 when not (knownDialect dialect))
+    ∷ (refuse 19 when eqb (length material) 0)
+    ∷ []
+
+unfoldable pub deriveNumber : ℕ → Bytes → Bytes → Bytes → ℕ
+deriveNumber dialect chain material place = firstOf (deriveTests dialect chain material place)
+
+-- what the place holds afterwards
+abbrev pub keysAfter : (Bytes → Bytes → Bytes → Bytes) → ℕ → Bytes → Bytes → Bytes → Bytes
+keysAfter kdf dialect chain material place =
+    cond (eqb (deriveNumber dialect chain material place) 0) (keysInOrder (derivedKeys kdf dialect chain (sessionKey material))) place

@@ -1,0 +1,10 @@
+pub mod Bytes
+pub mod Answer
+pub mod CompoundWalk
+pub mod TransformHeader
+pub mod Keys
+pub mod Preauth
+pub mod UnderKey
+pub mod SessionTable
+pub mod Transform
+pub mod Suite
