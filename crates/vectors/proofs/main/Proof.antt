@@ -1,3 +1,5 @@
+-- Safe and ending because each line ends behind its start and within the input.
+-- Assumes nothing.
 use mathlib.Core.Path.{_≡_}
 use borrow.Author.Needs.{needs}
 use lib.ListN.{length}

@@ -1,3 +1,5 @@
+-- Right because arrays read off slices of their length are the slices, and `ctr::apply` does the rest.
+-- Assumes nothing.
 use Rattle.ctr.specs.BlockCipher.{blockCipher}
 use Rattle.ctr.specs.Ctr.{ctr, counterBlocks}
 use Prim.Native.Nat.{ℕ}

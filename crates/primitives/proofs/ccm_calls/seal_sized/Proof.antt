@@ -1,3 +1,5 @@
+-- Right because arrays read off slices of their length are the slices, `ccm::seal` does the rest, and its tag fills the place.
+-- Assumes nothing.
 use lib.ListN.{length}
 use mathlib.Core.Path.{_≡_, _∙_, sym}
 use Rattle.primitives.proofs.Laws.{whole, expanded, filled}

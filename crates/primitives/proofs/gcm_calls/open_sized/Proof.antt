@@ -1,3 +1,5 @@
+-- Right because arrays read off slices of their length are the slices, and `gcm::open` does the rest.
+-- Assumes nothing.
 use Rattle.primitives.proofs.Laws.{whole, expanded}
 use borrow.Author.Needs.{needs}
 use Rattle.primitives.proofs.gcm_calls.open_sized.Statement.{statement}

@@ -1,3 +1,5 @@
+-- Right because the one test is the definition's, and where it fails nothing is touched.
+-- Assumes nothing.
 use Rattle.primitives.proofs.Laws.{opens, opens-not, gcm-sized}
 use borrow.Author.Needs.{needs}
 use Rattle.primitives.proofs.gcm_calls.primitives_gcm_open.Statement.{statement}

@@ -1,3 +1,5 @@
+-- Right because the code has the length of its place and fills it whole.
+-- Assumes nothing.
 use borrow.Author.Tests.{eq-eqb, ne-eqb}
 use native.Mathlib.Omega.{arith}
 use lib.ListN.{length}

@@ -1,3 +1,5 @@
+-- Right because the digest has the length of its place and fills it whole.
+-- Assumes nothing.
 use borrow.Author.Tests.{eq-eqb, ne-eqb}
 use native.Mathlib.Omega.{arith}
 use lib.ListN.{length}

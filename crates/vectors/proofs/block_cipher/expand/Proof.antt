@@ -1,3 +1,5 @@
+-- Safe because the loop stays below the eleven round keys.
+-- Assumes nothing.
 use borrow.Author.Needs.{needs}
 use Prim.Native.Nat.{_≤_, _-_}
 use Rattle.vectors.proofs.block_cipher.expand.Statement.{statement}

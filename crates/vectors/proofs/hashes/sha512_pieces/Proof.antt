@@ -1,3 +1,5 @@
+-- Safe and ending because a piece is never longer than what is left, nor than the buffer.
+-- Assumes nothing.
 use borrow.Author.Needs.{needs}
 use Prim.Native.Nat.{_≤_, _-_}
 use Rattle.vectors.proofs.hashes.sha512_pieces.Statement.{statement}

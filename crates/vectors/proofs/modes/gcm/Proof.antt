@@ -1,3 +1,5 @@
+-- Safe because no more bytes are read into a buffer than it has.
+-- Assumes nothing.
 use native.Mathlib.Omega.{arith}
 use mathlib.Core.Path.{sym}
 use lib.Seq.{length-take-le}

@@ -1,3 +1,5 @@
+-- Right because the loop stays within the buffer, whose length no store changes.
+-- Assumes nothing.
 use mathlib.Core.Path.{_≡_}
 use borrow.Author.Needs.{needs}
 use lib.ListN.{length, length-set}

@@ -1,3 +1,5 @@
+-- Ending because the place moves towards the end of the name.
+-- Assumes nothing.
 use borrow.Author.Needs.{needs}
 use lib.ListN.{length}
 use Prim.Native.Nat.{_-_}

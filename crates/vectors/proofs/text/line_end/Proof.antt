@@ -1,3 +1,5 @@
+-- Right because the place moves by one before the byte behind it is looked at.
+-- Assumes nothing.
 use mathlib.Core.Path.{_≡_}
 use borrow.Author.Needs.{needs}
 use lib.ListN.{length}

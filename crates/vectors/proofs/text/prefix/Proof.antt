@@ -1,3 +1,5 @@
+-- Right because a prefix is taken only where the bytes are there.
+-- Assumes nothing.
 use native.Mathlib.Omega.{arith}
 use mathlib.Core.Path.{sym}
 use lib.Seq.{length-take-le}

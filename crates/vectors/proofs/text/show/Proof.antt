@@ -1,3 +1,5 @@
+-- Safe and ending because the place stays within the bytes.
+-- Assumes nothing.
 use borrow.Author.Needs.{needs}
 use lib.ListN.{length}
 use Prim.Native.Nat.{_≤_, _-_}
