@@ -8,3 +8,4 @@ pub mod UnderKey
 pub mod SessionTable
 pub mod Transform
 pub mod Suite
+pub mod Sound

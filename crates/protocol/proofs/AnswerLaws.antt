@@ -1,0 +1,30 @@
+-- Answers: what a lent place holds afterwards, and what is judged after them.
+-- Assumes nothing.
+use mathlib.Core.Path.{_≡_, refl}
+use mathlib.Core.Bool.{true, false}
+use mathlib.Core.List.{List}
+use Prim.Native.Nat.{ℕ}
+use native.Mathlib.Omega.{arith}
+use Rattle.protocol.specs.Answer.{Answer, done, refused, isRefused, whenDone, Test, judge, judgeAfter}
+use Rattle.protocol.proofs.Judging.{judge-done}
+
+pub when-done : {A : Type 0} (a : Answer) (x y : A) → isRefused a ≡ false → whenDone a x y ≡ x
+when-done (done n) x y e = refl
+when-done (refused n) x y e = absurd (let z : _≡_ {A = ℕ} 0 1 = cc in omega arith)
+
+pub when-refused : {A : Type 0} (a : Answer) (x y : A) → isRefused a ≡ true → whenDone a x y ≡ y
+when-refused (done n) x y e = absurd (let z : _≡_ {A = ℕ} 0 1 = cc in omega arith)
+when-refused (refused n) x y e = refl
+
+-- a walk that is done is judged on, and one that is refused is not
+pub after-done : (a : Answer) (ts : List Test) → isRefused a ≡ false → judgeAfter a ts ≡ judge ts a
+after-done (done n) ts e = refl
+after-done (refused n) ts e = absurd (let z : _≡_ {A = ℕ} 0 1 = cc in omega arith)
+
+pub after-refused : (a : Answer) (ts : List Test) → isRefused a ≡ true → judgeAfter a ts ≡ a
+after-refused (done n) ts e = absurd (let z : _≡_ {A = ℕ} 0 1 = cc in omega arith)
+after-refused (refused n) ts e = refl
+
+pub judge-after-done : (a : Answer) (ts : List Test) (n : ℕ) → judgeAfter a ts ≡ done n → a ≡ done n
+judge-after-done (done k) ts n e = (judge-done ts (done k) n e) .1
+judge-after-done (refused k) ts n e = absurd (let z : _≡_ {A = ℕ} 0 1 = cc in omega arith)

@@ -1,0 +1,9 @@
+pub mod Judging
+pub mod AnswerLaws
+pub mod BytesLaws
+pub mod HeaderLaws
+pub mod First
+pub mod UnderKeyLaws
+pub mod PlaceLaws
+pub mod HashLengths
+pub mod SuiteLaws
