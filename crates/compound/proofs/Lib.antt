@@ -1,0 +1,4 @@
+pub mod Judging
+pub mod Magic
+pub mod TestLaws
+pub mod WalkLaws

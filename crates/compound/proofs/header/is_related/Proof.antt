@@ -1,0 +1,20 @@
+-- Right because the flags are the four bytes from 16 on, of which the related flag is bit 2.
+-- Assumes nothing.
+use lib.Dec.{eqb}
+use Prim.Native.Nat.{ℕ, _/_, _%_}
+use mathlib.Core.Path.{ap}
+use borrow.Author.Needs.{needs}
+use Rattle.compound.proofs.header.is_related.Statement.{statement}
+use Rattle.compound.proofs.header.is_related.Tie as tie
+
+add-u32-at : tie.Need-add-u32-at
+add-u32-at c = search needs
+
+u32-at-requires : tie.Need-u32-at-requires
+u32-at-requires c κs = search needs
+
+returns : tie.Need-returns
+returns c = ap (λ (x : ℕ). eqb (x / 4 % 2) 1) (c .u32-at .ensures)
+
+pub is-related-spec : {M : Type 1} → statement M
+is-related-spec = tie.close (tie.spec add-u32-at u32-at-requires returns)

@@ -1,0 +1,53 @@
+-- Right because each return stands under the tests before it in the list, which did not apply.
+-- Assumes nothing.
+use Rattle.compound.proofs.TestLaws.{first-11, first-12, first-13, first-14, first-none}
+use borrow.Author.Tests.{not-true, not-false}
+use mathlib.Core.Path.{sym, _∙_}
+use borrow.Author.Needs.{needs}
+use Rattle.compound.proofs.tests.first_number.Statement.{statement}
+use Rattle.compound.proofs.tests.first_number.Tie as tie
+
+returns : tie.Need-returns
+returns c = let a = c .before .before .args in first-11 (a .m .now) (a .id) (c .if1 .taken)
+
+is-header-requires : tie.Need-is-header-requires
+is-header-requires c κs = search needs
+
+returns-2 : tie.Need-returns-2
+returns-2 c =
+    let a = c .before .before .before .before .args in
+    first-12 (a .m .now) (a .id) (c .before .before .if1 .left) (sym (c .before .is-header .ensures) ∙ not-true _ (c .if2 .taken))
+
+is-related-requires : tie.Need-is-related-requires
+is-related-requires c κs = search needs
+
+returns-3 : tie.Need-returns-3
+returns-3 c =
+    let a = c .before .before .before .before .before .before .args in
+    first-13 (a .m .now) (a .id) (c .before .before .before .before .if1 .left) (sym (c .before .before .before .is-header .ensures) ∙ not-false _ (c .before .before .if2 .left)) (sym (c .before .is-related .ensures) ∙ c .if3 .taken)
+
+session-id-requires : tie.Need-session-id-requires
+session-id-requires c κs = search needs
+
+returns-4 : tie.Need-returns-4
+returns-4 c =
+    let a = c .before .before .before .before .before .before .before .before .args in
+    first-14 (a .m .now) (a .id) (c .before .before .before .before .before .before .if1 .left) (sym (c .before .before .before .before .before .is-header .ensures) ∙ not-false _ (c .before .before .before .before .if2 .left)) (sym (c .before .before .before .is-related .ensures) ∙ c .before .before .if3 .left) (λ e. c .if4 .taken (c .before .session-id .ensures ∙ e))
+
+returns-5 : tie.Need-returns-5
+returns-5 c =
+    let a = c .before .before .before .before .before .before .before .before .args in
+    first-none (a .m .now) (a .id) (c .before .before .before .before .before .before .if1 .left) (sym (c .before .before .before .before .before .is-header .ensures) ∙ not-false _ (c .before .before .before .before .if2 .left)) (sym (c .before .before .before .is-related .ensures) ∙ c .before .before .if3 .left) (sym (c .before .session-id .ensures) ∙ c .if4 .left)
+
+pub first-number-spec : {M : Type 1} → statement M
+first-number-spec =
+    tie.close
+    (tie.spec
+    returns
+    is-header-requires
+    returns-2
+    is-related-requires
+    returns-3
+    session-id-requires
+    returns-4
+    returns-5)

@@ -1,0 +1,75 @@
+-- Right because each return stands under the tests before it in the list, which did not apply; the difference that stands for the sum p + d + 64 cannot wrap.
+-- Assumes nothing.
+use Rattle.compound.proofs.TestLaws.{next-15-near, next-15-outside, next-16, next-12, next-14, next-none}
+use borrow.Author.Tests.{not-true, not-false}
+use native.Mathlib.Omega.{arith}
+use lib.Dec.{eqb}
+use Prim.Native.Nat.{ℕ}
+use mathlib.Core.Bool.{Bool, not, _&&_}
+use mathlib.Core.Path.{sym, ap₂, _∙_}
+use borrow.Author.Needs.{needs}
+use Rattle.compound.proofs.tests.next_number.Statement.{statement}
+use Rattle.compound.proofs.tests.next_number.Tie as tie
+
+returns : tie.Need-returns
+returns c = let a = c .before .before .args in next-15-near (a .m .now) (a .id) (a .p) (a .d) (c .if1 .taken)
+
+sub-if2 : tie.Need-sub-if2
+sub-if2 c = search needs
+
+sub-if2-2 : tie.Need-sub-if2-2
+sub-if2-2 c = search needs
+
+returns-2 : tie.Need-returns-2
+returns-2 c =
+    let a = c .before .before .before .args in
+    next-15-outside (a .m .now) (a .id) (a .p) (a .d) (c .before .if1 .left) (omega arith)
+
+returns-3 : tie.Need-returns-3
+returns-3 c =
+    let a = c .before .before .before .before .args in
+    next-16 (a .m .now) (a .id) (a .p) (a .d) (c .before .before .if1 .left) (omega arith) (c .if3 .taken)
+
+add-q : tie.Need-add-q
+add-q c = search needs
+
+is-header-requires : tie.Need-is-header-requires
+is-header-requires c κs = search needs
+
+returns-4 : tie.Need-returns-4
+returns-4 c =
+    let a = c .before .before .before .before .before .before .args in
+    next-12 (a .m .now) (a .id) (a .p) (a .d) (c .before .before .before .before .if1 .left) (omega arith) (c .before .before .if3 .left) (sym (c .before .is-header .ensures) ∙ not-true _ (c .if4 .taken))
+
+is-related-requires : tie.Need-is-related-requires
+is-related-requires c κs = search needs
+
+session-id-requires : tie.Need-session-id-requires
+session-id-requires c κs = search needs
+
+returns-5 : tie.Need-returns-5
+returns-5 c =
+    let a = c .before .before .before .before .before .before .before .before .before .args in
+    next-14 (a .m .now) (a .id) (a .p) (a .d) (c .before .before .before .before .before .before .before .if1 .left) (omega arith) (c .before .before .before .before .before .if3 .left) (sym (c .before .before .before .before .is-header .ensures) ∙ not-false _ (c .before .before .before .if4 .left)) (sym (ap₂ (λ (r : Bool) (i : ℕ). not r && not (eqb i (a .id))) (c .before .before .is-related .ensures) (c .before .session-id .ensures)) ∙ c .if5 .taken)
+
+returns-6 : tie.Need-returns-6
+returns-6 c =
+    let a = c .before .before .before .before .before .before .before .before .before .args in
+    next-none (a .m .now) (a .id) (a .p) (a .d) (c .before .before .before .before .before .before .before .if1 .left) (omega arith) (c .before .before .before .before .before .if3 .left) (sym (c .before .before .before .before .is-header .ensures) ∙ not-false _ (c .before .before .before .if4 .left)) (sym (ap₂ (λ (r : Bool) (i : ℕ). not r && not (eqb i (a .id))) (c .before .before .is-related .ensures) (c .before .session-id .ensures)) ∙ c .if5 .left)
+
+pub next-number-spec : {M : Type 1} → statement M
+next-number-spec =
+    tie.close
+    (tie.spec
+    returns
+    sub-if2
+    sub-if2-2
+    returns-2
+    returns-3
+    add-q
+    is-header-requires
+    returns-4
+    is-related-requires
+    session-id-requires
+    returns-5
+    returns-6)
