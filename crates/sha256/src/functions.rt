@@ -1,5 +1,5 @@
-// The functions of SHA-256 (FIPS 180-4 §4.1.2). Ch takes three operations, and Σ0 and Σ1 rotate by the differences of their amounts:
-// that is two registers less.
+// The functions of SHA-256 (FIPS 180-4 §4.1.2). Ch takes three operations instead of four. Σ0 and Σ1 rotate by the differences of
+// their amounts, one rotation after the other, which takes fewer copies of x than three rotations side by side.
 ghost use mathlib.Core.Path.{_≡_};
 ghost use Rattle.sha2.specs.Sha2 as sha2;
 ghost use Rattle.sha2.specs.Sha2.{bigSigma, smallSigma};

@@ -28,6 +28,7 @@ pub struct Sha256 {
 }
 
 impl Sha256 {
+    // Nothing taken in yet.
     pub fn new() -> Sha256
         ensures { λ r. ⌜ Holds r [] ⌝ }
     {
@@ -40,6 +41,7 @@ impl Sha256 {
         }
     }
 
+    // The piece follows what was taken in, wherever the cut falls.
     pub fn update(self, piece: &[u8]) -> Sha256
         ensures { λ r. ⌜ ((m : List ℕ) → Holds self m → Holds r (m ++ now (piece .entry))) ⌝ }
     {
@@ -70,6 +72,7 @@ impl Sha256 {
         }
     }
 
+    // For every message: where its length in bits does not fit two words, which §1 rules out, the padding has the low 64 bits.
     pub fn finish(self) -> [u8; 32]
         ensures { λ r. ⌜ ((m : List ℕ) → Holds self m → r ≡ sha2.hash sha256 m) ⌝ }
     {

@@ -29,6 +29,7 @@ pub struct Sha512 {
 }
 
 impl Sha512 {
+    // Nothing taken in yet.
     pub fn new() -> Sha512
         ensures { λ r. ⌜ Holds r [] ⌝ }
     {
@@ -41,6 +42,7 @@ impl Sha512 {
         }
     }
 
+    // The piece follows what was taken in, wherever the cut falls.
     pub fn update(self, piece: &[u8]) -> Sha512
         ensures { λ r. ⌜ ((m : List ℕ) → Holds self m → Holds r (m ++ now (piece .entry))) ⌝ }
     {
@@ -71,6 +73,7 @@ impl Sha512 {
         }
     }
 
+    // For a message below 2^64 bytes, which is what the count holds; §1 allows 2^128 bits.
     pub fn finish(self) -> [u8; 64]
         ensures { λ r. ⌜ ((m : List ℕ) → length m < 2 ^ 64 → Holds self m → r ≡ sha2.hash sha512 m) ⌝ }
     {
