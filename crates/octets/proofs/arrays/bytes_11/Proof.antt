@@ -1,5 +1,6 @@
 -- Right because the part from `at` on fills the array of zeros whole (array-copied).
 -- Assumes nothing.
+use native.Mathlib.Omega.{arith}
 use Rattle.octets.proofs.Paste.{array-copied}
 use borrow.Author.Needs.{needs}
 use Rattle.octets.proofs.arrays.bytes_11.Statement.{statement}
@@ -9,16 +10,16 @@ slice-aggregate-copy : tie.Need-slice-aggregate-copy
 slice-aggregate-copy c = search needs
 
 add-copy : tie.Need-add-copy
-add-copy c = search needs
+add-copy c = omega arith
 
 sub-copy : tie.Need-sub-copy
-sub-copy c = search needs
+sub-copy c = omega arith
 
 part-copy-start : tie.Need-part-copy-start
-part-copy-start c = search needs
+part-copy-start c = omega arith
 
 part-copy-end : tie.Need-part-copy-end
-part-copy-end c = search needs
+part-copy-end c = omega arith
 
 copy-requires : tie.Need-copy-requires
 copy-requires c κs = search needs

@@ -1,34 +1,34 @@
 -- Right because the divisions by 256 are those of `toBigEndian`, so both sides compute to the same list.
 -- Assumes nothing.
+use native.Mathlib.Omega.{arith}
 use mathlib.Core.Path.{refl}
 use Rattle.octets.specs.Numbers.{toBigEndian}
-use borrow.Author.Needs.{needs}
 use Rattle.octets.proofs.big_endian.u64_bytes.Statement.{statement}
 use Rattle.octets.proofs.big_endian.u64_bytes.Tie as tie
 
 cast-t10 : tie.Need-cast-t10
-cast-t10 c = search needs
+cast-t10 c = omega arith
 
 cast-t12 : tie.Need-cast-t12
-cast-t12 c = search needs
+cast-t12 c = omega arith
 
 cast-t14 : tie.Need-cast-t14
-cast-t14 c = search needs
+cast-t14 c = omega arith
 
 cast-t16 : tie.Need-cast-t16
-cast-t16 c = search needs
+cast-t16 c = omega arith
 
 cast-t18 : tie.Need-cast-t18
-cast-t18 c = search needs
+cast-t18 c = omega arith
 
 cast-t20 : tie.Need-cast-t20
-cast-t20 c = search needs
+cast-t20 c = omega arith
 
 cast-t22 : tie.Need-cast-t22
-cast-t22 c = search needs
+cast-t22 c = omega arith
 
 cast-t24 : tie.Need-cast-t24
-cast-t24 c = search needs
+cast-t24 c = omega arith
 
 returns : tie.Need-returns
 unfolding toBigEndian

@@ -1,5 +1,6 @@
 -- Right because eight bytes, the lowest first, are two numbers of four (little8-is).
 -- Assumes nothing.
+use native.Mathlib.Omega.{arith}
 use Rattle.octets.proofs.NumberLaws.{little8-is}
 use borrow.Author.Needs.{needs}
 use Rattle.octets.proofs.little_endian.u64_at.Statement.{statement}
@@ -9,22 +10,22 @@ u32-at-requires : tie.Need-u32-at-requires
 u32-at-requires c κs = search needs
 
 cast-result : tie.Need-cast-result
-cast-result c = search needs
+cast-result c = omega arith
 
 add-u32-at : tie.Need-add-u32-at
-add-u32-at c = search needs
+add-u32-at c = omega arith
 
 u32-at-requires-2 : tie.Need-u32-at-requires-2
 u32-at-requires-2 c κs = search needs
 
 cast-result-2 : tie.Need-cast-result-2
-cast-result-2 c = search needs
+cast-result-2 c = omega arith
 
 mul-result : tie.Need-mul-result
-mul-result c = search needs
+mul-result c = omega arith
 
 add-result : tie.Need-add-result
-add-result c = search needs
+add-result c = omega arith
 
 returns : tie.Need-returns
 returns c = cc (little8-is (c .before .before .before .args .b .now) (c .before .before .before .args .at) (c .before .before .before .pre))
