@@ -2,6 +2,8 @@
 ghost use mathlib.Core.Path.{_≡_};
 ghost use Prim.Native.Nat.{_-_, _<_};
 ghost use lib.ListN.{length};
+ghost use mathlib.Core.List.{_++_};
+ghost use Rattle.octets.specs.Numbers.{toBigEndian};
 ghost use Rattle.aes.specs.Cipher.{cipher};
 ghost use Rattle.aes.specs.KeyExpansion.{keyExpansion};
 ghost use Rattle.aes.specs.Words.{SubMixTable};
@@ -42,6 +44,14 @@ pub fn encrypt_with(t: &[u32; 256], keys: &[[u8; 16]], block: [u8; 16]) -> [u8; 
     ensures { λ r. ⌜ r ≡ cipher (length (now (keys .entry)) - 1) (now (keys .entry)) block ⌝ }
 {
     words::store(rounds::encrypt(t, keys, words::load(block)))
+}
+
+// The same on a counter block: twelve bytes and the number n, its highest byte first.
+pub fn encrypt_counter(t: &[u32; 256], keys: &[[u8; 16]], prefix: [u8; 12], n: u32) -> [u8; 16]
+    requires { ⌜ (1 < length (now keys)) × SubMixTable (now t) ⌝ }
+    ensures { λ r. ⌜ r ≡ cipher (length (now (keys .entry)) - 1) (now (keys .entry)) (prefix ++ toBigEndian 4 n) ⌝ }
+{
+    words::store(rounds::encrypt(t, keys, words::load_counter(prefix, n)))
 }
 
 // The cipher (5.1) on one block.

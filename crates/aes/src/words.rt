@@ -1,5 +1,7 @@
 // Words of four bytes, the first in the low digits; and a state as its four columns.
 ghost use mathlib.Core.Path.{_≡_};
+ghost use mathlib.Core.List.{_++_};
+ghost use Rattle.octets.specs.Numbers.{toBigEndian};
 ghost use Rattle.aes.specs.Words.{Bytes, stateOf, byte0, byte1, byte2, byte3};
 
 pub struct Columns {
@@ -36,6 +38,19 @@ pub fn load(s: [u8; 16]) -> Columns
         c1: word(s[4], s[5], s[6], s[7]),
         c2: word(s[8], s[9], s[10], s[11]),
         c3: word(s[12], s[13], s[14], s[15]),
+    }
+}
+
+// The columns of a counter block: twelve bytes and the number n, its highest byte first. The number never goes through memory.
+pub fn load_counter(p: [u8; 12], n: u32) -> Columns
+    ensures { λ r. ⌜ stateOf r ≡ p ++ toBigEndian 4 n ⌝ }
+{
+    let c = octets::big_endian::u32_bytes(n);
+    Columns {
+        c0: word(p[0], p[1], p[2], p[3]),
+        c1: word(p[4], p[5], p[6], p[7]),
+        c2: word(p[8], p[9], p[10], p[11]),
+        c3: word(c[0], c[1], c[2], c[3]),
     }
 }
 

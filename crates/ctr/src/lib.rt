@@ -19,14 +19,6 @@ pub fn counter_block(prefix: [u8; 12], n: u32) -> [u8; 16]
     b
 }
 
-// The output block of counter n.
-fn key_stream(t: &[u32; 256], keys: &[[u8; 16]], prefix: [u8; 12], n: u32) -> [u8; 16]
-    requires { ⌜ (1 < length (now keys)) × SubMixTable (now t) ⌝ }
-    ensures { λ r. ⌜ r ≡ blockCipher (now (keys .entry)) (prefix ++ toBigEndian 4 n) ⌝ }
-{
-    aes::encrypt_with(t, keys, counter_block(prefix, n))
-}
-
 // Xors the text with the key stream whose first counter is `first`.
 pub fn apply(t: &[u32; 256], keys: &[[u8; 16]], prefix: [u8; 12], first: u32, text: &mut [u8])
     requires { ⌜ (1 < length (now keys)) × SubMixTable (now t) × (first + length (now text) < 2 ^ 32) ⌝ }
@@ -36,11 +28,16 @@ pub fn apply(t: &[u32; 256], keys: &[[u8; 16]], prefix: [u8; 12], first: u32, te
     let mut n = first;
     // Whole blocks: the count of 16 is fixed, so that a block is xored at once.
     while 16 <= text.len() - i {
-        octets::runs::xor_at(text, i, 16, key_stream(t, keys, prefix, n));
+        octets::runs::xor_at(text, i, 16, aes::encrypt_counter(t, keys, prefix, n));
         i += 16;
         n += 1;
     }
     if i < text.len() {
-        octets::runs::xor_at(text, i, text.len() - i, key_stream(t, keys, prefix, n));
+        octets::runs::xor_at(
+            text,
+            i,
+            text.len() - i,
+            aes::encrypt_counter(t, keys, prefix, n),
+        );
     }
 }

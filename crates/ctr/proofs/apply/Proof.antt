@@ -29,8 +29,8 @@ loop-holds c =
 sub-loop : tie.Need-sub-loop Inv-loop μ-loop
 sub-loop c = omega arith
 
-key-stream-requires : tie.Need-key-stream-requires Inv-loop μ-loop
-key-stream-requires c κs = search needs
+encrypt-counter-requires : tie.Need-encrypt-counter-requires Inv-loop μ-loop
+encrypt-counter-requires c κs = search needs
 
 xor-at-requires : tie.Need-xor-at-requires Inv-loop μ-loop
 xor-at-requires c κs = omega arith
@@ -47,7 +47,7 @@ loop-less c = omega arith
 loop-again : tie.Need-loop-again Inv-loop μ-loop
 loop-again c =
     let x = c .before .before .xor-at in
-    let g = c .before .before .before .key-stream in
+    let g = c .before .before .before .encrypt-counter in
     let k = c .before .before .before .before .before .before in
     let a = k .before .before .args in (
       counter-turn (blockCipher (now (a .keys))) (a .prefix) (a .first) (k .loop .n) (now (a .text)) (k .loop .i) 16 (g .result) (k .loop .text) _
@@ -61,8 +61,8 @@ loop-again c =
 sub-xor-at : tie.Need-sub-xor-at Inv-loop μ-loop
 sub-xor-at c = omega arith
 
-key-stream-requires-2 : tie.Need-key-stream-requires-2 Inv-loop μ-loop
-key-stream-requires-2 c κs = search needs
+encrypt-counter-requires-2 : tie.Need-encrypt-counter-requires-2 Inv-loop μ-loop
+encrypt-counter-requires-2 c κs = search needs
 
 xor-at-requires-2 : tie.Need-xor-at-requires-2 Inv-loop μ-loop
 xor-at-requires-2 c κs = omega arith
@@ -73,7 +73,7 @@ same-length c = omega arith
 returns : tie.Need-returns Inv-loop μ-loop
 returns c =
     let x = c .before .before .xor-at2 in
-    let g = c .before .before .before .key-stream2 in
+    let g = c .before .before .before .encrypt-counter2 in
     let k = c .before .before .before .before .before .before .before in
     let a = k .before .before .args in
     let m : ℕ = length (k .loop .text) - k .loop .i in
@@ -98,14 +98,14 @@ apply-spec =
     μ-loop
     loop-holds
     sub-loop
-    key-stream-requires
+    encrypt-counter-requires
     xor-at-requires
     add-i
     add-n
     loop-less
     loop-again
     sub-xor-at
-    key-stream-requires-2
+    encrypt-counter-requires-2
     xor-at-requires-2
     same-length
     returns
