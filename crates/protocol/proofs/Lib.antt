@@ -7,3 +7,5 @@ pub mod UnderKeyLaws
 pub mod PlaceLaws
 pub mod HashLengths
 pub mod SuiteLaws
+pub mod PLines
+pub mod Figures

@@ -7,18 +7,22 @@ use Prim.Native.Nat.{ℕ}
 use native.Mathlib.Omega.{arith}
 use lib.Dec.{eqb, lit≤}
 use lib.ListN.{length, take}
+use Rattle.octets.specs.Numbers.{toBigEndian}
 use Rattle.aes.specs.KeyExpansion.{keyExpansion}
 use Rattle.aes.proofs.Lengths.{length-cipher}
 use Rattle.sha2.specs.Sha2.{hash}
 use Rattle.sha2.specs.Sha512 as sha2
-use Rattle.kdf.specs.CounterMode.{deriveSha256}
+use Rattle.sha2.specs.Sha256.{sha256}
+use Rattle.hmac.specs.Hmac.{hmac}
+use Rattle.kdf.specs.CounterMode.{derive, deriveSha256, blocks, block, fixedInput}
 use Rattle.ccm.specs.Ccm as ccm
 use Rattle.ccm.proofs.CcmLaws as ccm-laws
 use Rattle.gcm.specs.Gcm as gcm
 use Rattle.gcm.proofs.GcmLaws as gcm-laws
 use Rattle.protocol.specs.Bytes.{Bytes}
+use Rattle.protocol.specs.Keys.{derivationInput}
 use Rattle.protocol.specs.Sound.{Sound}
-use Rattle.protocol.specs.Suite.{suite, sha512, kdf, ciphers, aes128, encryptText, tagOfText, decryptText}
+use Rattle.protocol.specs.Suite.{suite, sha512, kdf, ciphers, aes128, ccmNonce, gcmNonce, Cipher, aes128Ccm, aes128Gcm, cipherOf}
 use Rattle.protocol.proofs.HashLengths.{length-hash, length-derived}
 
 -- ---- each part is what its own crate defines
@@ -31,77 +35,70 @@ pub kdf-is : (key label context : Bytes) → kdf key label context ≡ deriveSha
 unfolding suite
 kdf-is key label context = refl
 
+-- "the first 16 bytes of HMAC-SHA-256 .. over: 00 00 00 01, label, 00, context, 00 00 00 80"
+pub kdf-of-document : (key label context : Bytes) → kdf key label context ≡ take 16 (hmac sha256 key (derivationInput label context))
+unfolding suite derive blocks block fixedInput toBigEndian derivationInput
+kdf-of-document key label context = refl
+
 module _ (key nonce auth : Bytes) where
-  pub ccm-encrypts : (p : Bytes) → ciphers .encrypt 1 key nonce auth p ≡ ccm.encrypt (aes128 key) (take 11 nonce) p
-  unfolding suite encryptText
+  pub ccm-encrypts : (p : Bytes) → ciphers .encrypt 1 key nonce auth p ≡ ccm.encrypt (aes128 key) (ccmNonce nonce) p
+  unfolding suite cipherOf
   ccm-encrypts p = refl
 
-  pub gcm-encrypts : (p : Bytes) → ciphers .encrypt 2 key nonce auth p ≡ gcm.encrypt (aes128 key) (take 12 nonce) p
-  unfolding suite encryptText
+  pub gcm-encrypts : (p : Bytes) → ciphers .encrypt 2 key nonce auth p ≡ gcm.encrypt (aes128 key) (gcmNonce nonce) p
+  unfolding suite cipherOf
   gcm-encrypts p = refl
 
-  pub ccm-tags : (p : Bytes) → ciphers .tag 1 key nonce auth p ≡ ccm.tag (aes128 key) (take 11 nonce) auth p
-  unfolding suite tagOfText
+  pub ccm-tags : (p : Bytes) → ciphers .tag 1 key nonce auth p ≡ ccm.tag (aes128 key) (ccmNonce nonce) auth p
+  unfolding suite cipherOf
   ccm-tags p = refl
 
-  pub gcm-tags : (p : Bytes) → ciphers .tag 2 key nonce auth p ≡ gcm.tag (aes128 key) (take 12 nonce) auth (gcm.encrypt (aes128 key) (take 12 nonce) p)
-  unfolding suite tagOfText
+  pub gcm-tags : (p : Bytes) → ciphers .tag 2 key nonce auth p ≡ gcm.tag (aes128 key) (gcmNonce nonce) auth (gcm.encrypt (aes128 key) (gcmNonce nonce) p)
+  unfolding suite cipherOf
   gcm-tags p = refl
 
-  pub ccm-decrypts : (t body : Bytes) → ciphers .decrypt 1 key nonce auth t body ≡ ccm.decrypt (aes128 key) (take 11 nonce) auth t body
-  unfolding suite decryptText
+  pub ccm-decrypts : (t body : Bytes) → ciphers .decrypt 1 key nonce auth t body ≡ ccm.decrypt (aes128 key) (ccmNonce nonce) auth t body
+  unfolding suite cipherOf
   ccm-decrypts t body = refl
 
-  pub gcm-decrypts : (t body : Bytes) → ciphers .decrypt 2 key nonce auth t body ≡ gcm.decrypt (aes128 key) (take 12 nonce) auth t body
-  unfolding suite decryptText
+  pub gcm-decrypts : (t body : Bytes) → ciphers .decrypt 2 key nonce auth t body ≡ gcm.decrypt (aes128 key) (gcmNonce nonce) auth t body
+  unfolding suite cipherOf
   gcm-decrypts t body = refl
 
 -- ---- what is relied on
 
-blocks : (key x : Bytes) → length (aes128 key x) ≡ 16
-blocks key x = length-cipher _ (keyExpansion 4 10 key) x
+-- of one cipher
+record SoundCipher (x : Cipher) : Type 0 where
+  tag-length : (key nonce auth p : Bytes) → length (x .tag key nonce auth p) ≡ 16
+  encrypt-length : (key nonce auth p : Bytes) → length (x .encrypt key nonce auth p) ≡ length p
+  decrypts : (key nonce auth p : Bytes) → x .decrypt key nonce auth (x .tag key nonce auth p) (x .encrypt key nonce auth p) ≡ some p
+  encrypts-again : (key nonce auth t body p : Bytes) → x .decrypt key nonce auth t body ≡ some p → x .encrypt key nonce auth p ≡ body
 
-module _ (cipher : ℕ) (key nonce auth : Bytes) where
-  tag-length : (p : Bytes) → length (tagOfText cipher key nonce auth p) ≡ 16
-  unfolding tagOfText
-  tag-length p = go (eqb cipher 2)
-    where
-      go : (b : Bool) → length (cond b (gcm.tag (aes128 key) (take 12 nonce) auth (gcm.encrypt (aes128 key) (take 12 nonce) p)) (ccm.tag (aes128 key) (take 11 nonce) auth p)) ≡ 16
-      go true = gcm-laws.length-tag (aes128 key) (take 12 nonce) auth _
-      go false = ccm-laws.length-tag (aes128 key) (blocks key) 4 16 (take 11 nonce) auth p (lit≤ tt)
+ccm-sound : SoundCipher aes128Ccm
+ccm-sound =
+    record {
+      tag-length = λ key nonce auth p. ccm-laws.length-tag (aes128 key) (λ x. length-cipher _ (keyExpansion 4 10 key) x) 4 16 (ccmNonce nonce) auth p (lit≤ tt);
+      encrypt-length = λ key nonce auth p. ccm-laws.length-encrypt (aes128 key) 4 (ccmNonce nonce) p;
+      decrypts = λ key nonce auth p. ccm-laws.decrypts (aes128 key) 4 (ccmNonce nonce) 16 auth p;
+      encrypts-again = λ key nonce auth t body p e. ccm-laws.encrypts-again (aes128 key) 4 (ccmNonce nonce) 16 auth t body p e;
+    }
 
-  encrypt-length : (p : Bytes) → length (encryptText cipher key nonce auth p) ≡ length p
-  unfolding encryptText
-  encrypt-length p = go (eqb cipher 2)
-    where
-      go : (b : Bool) → length (cond b (gcm.encrypt (aes128 key) (take 12 nonce) p) (ccm.encrypt (aes128 key) (take 11 nonce) p)) ≡ length p
-      go true = gcm-laws.length-encrypt (aes128 key) (take 12 nonce) p
-      go false = ccm-laws.length-encrypt (aes128 key) 4 (take 11 nonce) p
+gcm-sound : SoundCipher aes128Gcm
+gcm-sound =
+    record {
+      tag-length = λ key nonce auth p. gcm-laws.length-tag (aes128 key) (gcmNonce nonce) auth _;
+      encrypt-length = λ key nonce auth p. gcm-laws.length-encrypt (aes128 key) (gcmNonce nonce) p;
+      decrypts = λ key nonce auth p. gcm-laws.decrypts (aes128 key) (gcmNonce nonce) auth p;
+      encrypts-again = λ key nonce auth t body p e. gcm-laws.encrypts-again (aes128 key) (gcmNonce nonce) auth t body p e;
+    }
 
-  decrypts : (p : Bytes) → decryptText cipher key nonce auth (tagOfText cipher key nonce auth p) (encryptText cipher key nonce auth p) ≡ some p
-  unfolding decryptText tagOfText encryptText
-  decrypts p = go (eqb cipher 2)
-    where
-      go : (b : Bool)
-          → cond b
-          (gcm.decrypt (aes128 key) (take 12 nonce) auth
-          (cond b (gcm.tag (aes128 key) (take 12 nonce) auth (gcm.encrypt (aes128 key) (take 12 nonce) p)) (ccm.tag (aes128 key) (take 11 nonce) auth p))
-          (cond b (gcm.encrypt (aes128 key) (take 12 nonce) p) (ccm.encrypt (aes128 key) (take 11 nonce) p)))
-          (ccm.decrypt (aes128 key) (take 11 nonce) auth
-          (cond b (gcm.tag (aes128 key) (take 12 nonce) auth (gcm.encrypt (aes128 key) (take 12 nonce) p)) (ccm.tag (aes128 key) (take 11 nonce) auth p))
-          (cond b (gcm.encrypt (aes128 key) (take 12 nonce) p) (ccm.encrypt (aes128 key) (take 11 nonce) p)))
-          ≡ some p
-      go true = gcm-laws.decrypts (aes128 key) (take 12 nonce) auth p
-      go false = ccm-laws.decrypts (aes128 key) 4 (take 11 nonce) 16 auth p
-
-  encrypts-again : (t body p : Bytes) → decryptText cipher key nonce auth t body ≡ some p → encryptText cipher key nonce auth p ≡ body
-  unfolding decryptText encryptText
-  encrypts-again t body p = go (eqb cipher 2)
-    where
-      go : (b : Bool) → cond b (gcm.decrypt (aes128 key) (take 12 nonce) auth t body) (ccm.decrypt (aes128 key) (take 11 nonce) auth t body) ≡ some p
-          → cond b (gcm.encrypt (aes128 key) (take 12 nonce) p) (ccm.encrypt (aes128 key) (take 11 nonce) p) ≡ body
-      go true e = gcm-laws.encrypts-again (aes128 key) (take 12 nonce) auth t body p e
-      go false e = ccm-laws.encrypts-again (aes128 key) 4 (take 11 nonce) 16 auth t body p e
+cipher-sound : (n : ℕ) → SoundCipher (cipherOf n)
+unfolding cipherOf
+cipher-sound n = go (eqb n 2)
+  where
+    go : (b : Bool) → SoundCipher (cond b aes128Gcm aes128Ccm)
+    go true = gcm-sound
+    go false = ccm-sound
 
 pub suite-sound : Sound suite
 unfolding suite
@@ -109,8 +106,8 @@ suite-sound =
     record {
       hash-length = length-hash sha2.sha512;
       key-length = length-derived;
-      tag-length = tag-length;
-      encrypt-length = encrypt-length;
-      decrypts = decrypts;
-      encrypts-again = encrypts-again;
+      tag-length = λ n. (cipher-sound n) .tag-length;
+      encrypt-length = λ n. (cipher-sound n) .encrypt-length;
+      decrypts = λ n. (cipher-sound n) .decrypts;
+      encrypts-again = λ n. (cipher-sound n) .encrypts-again;
     }

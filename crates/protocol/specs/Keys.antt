@@ -18,6 +18,10 @@ knownDialect d = eqb d 0x0300 || eqb d 0x0302 || eqb d 0x0311
 abbrev pub sessionKey : Bytes → Bytes
 sessionKey material = zeroPadded 16 material
 
+-- what HMAC-SHA-256, keyed with the session key, is over: "00 00 00 01, label, 00, context, 00 00 00 80"
+unfoldable pub derivationInput : Bytes → Bytes → Bytes
+derivationInput label context = 0 ∷ 0 ∷ 0 ∷ 1 ∷ (label ++ (0 ∷ (context ++ (0 ∷ 0 ∷ 0 ∷ 0x80 ∷ []))))
+
 -- ---- the table's labels for 3.1.1, each with its final zero byte
 
 -- "SMBSigningKey"

@@ -9,3 +9,4 @@ pub mod SessionTable
 pub mod Transform
 pub mod Suite
 pub mod Sound
+pub mod PLines

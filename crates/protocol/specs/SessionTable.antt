@@ -20,10 +20,13 @@ pub record Session : Type 0 where
 abbrev pub zeroKey : Bytes
 zeroKey = replicate 16 0
 
+abbrev pub zeroKeys : Keys
+zeroKeys = record { signing = zeroKey; application = zeroKey; clientToServer = zeroKey; serverToClient = zeroKey }
+
 -- a free record, all zero
 abbrev pub freeRecord : Session
 freeRecord =
-    record { used = false; id = 0; guest = false; anonymous = false; keys = record { signing = zeroKey; application = zeroKey; clientToServer = zeroKey; serverToClient = zeroKey }; counter = 0 }
+    record { used = false; id = 0; guest = false; anonymous = false; keys = zeroKeys; counter = 0 }
 
 abbrev pub withCounter : ℕ → Session → Session
 withCounter n s = record { used = s .used; id = s .id; guest = s .guest; anonymous = s .anonymous; keys = s .keys; counter = n }

@@ -1,4 +1,4 @@
--- The suite: the primitives of "What the library covers" in document 01, out of their own definitions.
+-- The suite: the primitives that document 01, "What the library covers" and "Ciphers", names, out of their own crates' definitions.
 -- Assumes nothing.
 use mathlib.Core.Bool.{cond}
 use mathlib.Core.Option.{Option}
@@ -19,25 +19,46 @@ use Rattle.protocol.specs.UnderKey.{Ciphers, Primitives}
 abbrev pub aes128 : Bytes → Bytes → Bytes
 aes128 key = blockCipher (keyExpansion 4 10 key)
 
--- cipher 2 is GCM with the first 12 bytes of the nonce field, cipher 1 CCM with the first 11. No other number gets here (number 1)
-unfoldable pub encryptText : ℕ → Bytes → Bytes → Bytes → Bytes → Bytes
-encryptText cipher key nonce auth p = cond (eqb cipher 2) (gcm.encrypt (aes128 key) (take 12 nonce) p) (ccm.encrypt (aes128 key) (take 11 nonce) p)
+-- "11 nonce bytes", "12 nonce bytes": the first of the header's Nonce, whose unused end is ignored
+abbrev pub ccmNonce : Bytes → Bytes
+ccmNonce field = take 11 field
 
-unfoldable pub tagOfText : ℕ → Bytes → Bytes → Bytes → Bytes → Bytes
-tagOfText cipher key nonce auth p =
-    cond (eqb cipher 2) (gcm.tag (aes128 key) (take 12 nonce) auth (gcm.encrypt (aes128 key) (take 12 nonce) p))
-    (ccm.tag (aes128 key) (take 11 nonce) auth p)
+abbrev pub gcmNonce : Bytes → Bytes
+gcmNonce field = take 12 field
 
-unfoldable pub decryptText : ℕ → Bytes → Bytes → Bytes → Bytes → Bytes → Option Bytes
-decryptText cipher key nonce auth tag body =
-    cond (eqb cipher 2) (gcm.decrypt (aes128 key) (take 12 nonce) auth tag body) (ccm.decrypt (aes128 key) (take 11 nonce) auth tag body)
+-- one cipher: what `Ciphers` has for its number
+pub record Cipher : Type 0 where
+  pub encrypt : Bytes → Bytes → Bytes → Bytes → Bytes
+  pub tag : Bytes → Bytes → Bytes → Bytes → Bytes
+  pub decrypt : Bytes → Bytes → Bytes → Bytes → Bytes → Option Bytes
+
+abbrev pub aes128Ccm : Cipher
+aes128Ccm =
+    record {
+      encrypt = λ key nonce auth p. ccm.encrypt (aes128 key) (ccmNonce nonce) p;
+      tag = λ key nonce auth p. ccm.tag (aes128 key) (ccmNonce nonce) auth p;
+      decrypt = λ key nonce auth t body. ccm.decrypt (aes128 key) (ccmNonce nonce) auth t body;
+    }
+
+-- GCM's tag is that of the ciphertext
+abbrev pub aes128Gcm : Cipher
+aes128Gcm =
+    record {
+      encrypt = λ key nonce auth p. gcm.encrypt (aes128 key) (gcmNonce nonce) p;
+      tag = λ key nonce auth p. gcm.tag (aes128 key) (gcmNonce nonce) auth (gcm.encrypt (aes128 key) (gcmNonce nonce) p);
+      decrypt = λ key nonce auth t body. gcm.decrypt (aes128 key) (gcmNonce nonce) auth t body;
+    }
+
+-- "AES-128-CCM (cipher 1) and AES-128-GCM (cipher 2)". Where the definitions ask, it is one of the two
+unfoldable pub cipherOf : ℕ → Cipher
+cipherOf n = cond (eqb n 2) aes128Gcm aes128Ccm
 
 unfoldable pub suite : Primitives
 suite =
     record {
       sha512 = hash sha2.sha512;
       kdf = deriveSha256 16;
-      ciphers = record { encrypt = encryptText; tag = tagOfText; decrypt = decryptText };
+      ciphers = record { encrypt = λ n. (cipherOf n) .encrypt; tag = λ n. (cipherOf n) .tag; decrypt = λ n. (cipherOf n) .decrypt };
     }
 
 -- its parts, under the names that contracts cite

@@ -1,0 +1,70 @@
+-- Figures of document 01 beside the P lines, which rule out the errors that it expects.
+-- Assumes nothing.
+use mathlib.Core.Path.{_≡_, refl}
+use mathlib.Core.Bool.{true, false}
+use mathlib.Core.List.{List, [], _∷_, _++_}
+use Prim.Native.Nat.{ℕ, _+_}
+use native.Mathlib.Omega.{arith}
+use lib.ListN.{length, take, replicate, length-append}
+use lib.Seq.{length-take-le}
+use Rattle.octets.specs.Numbers.{littleEndian, toLittleEndian, toBigEndian}
+use Rattle.octets.specs.Same.{sameBytes}
+use Rattle.ccm.specs.Formatting.{flags, associated, counterBlock}
+use Rattle.gcm.specs.Gcm.{preCounterBlock}
+use Rattle.protocol.specs.Bytes.{Bytes}
+use Rattle.protocol.specs.Answer.{refused}
+use Rattle.protocol.specs.CompoundWalk.{walk}
+use Rattle.protocol.specs.Keys.{smbSigningKey, smbAppKey, smbC2SCipherKey, smbS2CCipherKey, smb2AesCmac, smb2App, smb2AesCcm, smbSign, smbRpc, serverIn, serverOut}
+use Rattle.protocol.specs.TransformHeader.{nonceOf, authenticated}
+use Rattle.protocol.specs.UnderKey.{Protection, lastCounter, sealUnderKeyAnswer, openUnderKeyAnswer}
+use Rattle.protocol.specs.Suite.{ciphers, ccmNonce, gcmNonce}
+
+abbrev lengths : List Bytes → List ℕ
+lengths [] = []
+lengths (b ∷ bs) = length b ∷ lengths bs
+
+-- encryption off
+abbrev off : Protection
+off = record { dialect = 0x0311; encryption = false; cipher = 1 }
+
+abbrev on : Protection
+on = record { dialect = 0x0311; encryption = true; cipher = 1 }
+
+pub record Figures : Type 0 where
+  -- "Keys", in brackets: bytes with the zero
+  pub labels-311 : lengths (smbSigningKey ∷ smbAppKey ∷ smbC2SCipherKey ∷ smbS2CCipherKey ∷ []) ≡ 14 ∷ 10 ∷ 16 ∷ 16 ∷ []
+  pub labels-300 : lengths (smb2AesCmac ∷ smb2App ∷ smb2AesCcm ∷ []) ≡ 12 ∷ 8 ∷ 11 ∷ []
+  pub contexts-300 : lengths (smbSign ∷ smbRpc ∷ serverIn ∷ serverOut ∷ []) ≡ 8 ∷ 7 ∷ 10 ∷ 10 ∷ []
+  -- "Ciphers": the flag byte of CCM's first block, and what its authenticated data begin with
+  pub first-flags : (n size id : ℕ) → flags 4 16 (length (authenticated n size id)) ≡ 0x7B
+  pub associated-begins : (n size id : ℕ) → take 2 (associated (authenticated n size id)) ≡ 0 ∷ 0x20 ∷ []
+  -- the nonce bytes of each cipher fill its counter blocks
+  pub ccm-blocks : (nonce : Bytes) (i : ℕ) → length nonce ≡ 16 → length (counterBlock 4 (ccmNonce nonce) i) ≡ 16
+  pub gcm-blocks : (nonce : Bytes) → length nonce ≡ 16 → length (preCounterBlock (gcmNonce nonce)) ≡ 16
+  -- "Where several apply, 40 comes first"
+  pub key-first : openUnderKeyAnswer ciphers off (replicate 15 0) 5 [] ≡ refused 40
+  -- 17 comes last: after 11
+  pub counter-last : sealUnderKeyAnswer on (replicate 16 0) lastCounter 5 (replicate 115 0) ≡ refused 11
+
+ccm-blocks : (nonce : Bytes) (i : ℕ) → length nonce ≡ 16 → length (counterBlock 4 (ccmNonce nonce) i) ≡ 16
+unfolding toBigEndian
+ccm-blocks nonce i l = simp length-append (omega (arith, length-take-le 11 nonce (omega arith)))
+
+gcm-blocks : (nonce : Bytes) → length nonce ≡ 16 → length (preCounterBlock (gcmNonce nonce)) ≡ 16
+unfolding toBigEndian
+gcm-blocks nonce l = simp length-append (omega (arith, length-take-le 12 nonce (omega arith)))
+
+pub figures : Figures
+unfolding smbSigningKey smbAppKey smbC2SCipherKey smbS2CCipherKey smb2AesCmac smb2App smb2AesCcm smbSign smbRpc serverIn serverOut nonceOf authenticated toLittleEndian littleEndian toBigEndian sameBytes flags associated walk sealUnderKeyAnswer openUnderKeyAnswer
+figures =
+    record {
+      labels-311 = refl;
+      labels-300 = refl;
+      contexts-300 = refl;
+      first-flags = λ n size id. refl;
+      associated-begins = λ n size id. refl;
+      ccm-blocks = ccm-blocks;
+      gcm-blocks = gcm-blocks;
+      key-first = refl;
+      counter-last = refl;
+    }
