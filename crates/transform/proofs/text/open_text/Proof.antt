@@ -1,0 +1,53 @@
+-- Right because each way out is one of three: the tag is wrong, the walk refuses and the key stream is applied again, or it is open (Opening).
+-- Assumes nothing.
+use mathlib.Core.Path.{sym, _∙_}
+use borrow.Author.Tests.{not-true, not-false}
+use Rattle.transform.proofs.Opening.{tag-wrong, restored, opened}
+use borrow.Author.Needs.{needs}
+use Rattle.transform.proofs.text.open_text.Statement.{statement}
+use Rattle.transform.proofs.text.open_text.Tie as tie
+
+open-requires : tie.Need-open-requires
+open-requires c κs = search needs
+
+same-length : tie.Need-same-length
+same-length c = search needs
+
+returns : tie.Need-returns
+returns c = let a = c .before .before .before .before .before .before .args in tag-wrong (a .cipher) (a .key) (a .nonce) (a .aad) (a .tag) (a .size) (a .id) (a .text .now) _ _ (c .before .before .before .«open» .ensures) (not-true _ (c .if1 .taken))
+
+size-then-walk-requires : tie.Need-size-then-walk-requires
+size-then-walk-requires c κs = search needs
+
+refused-requires : tie.Need-refused-requires
+refused-requires c κs = search needs
+
+apply-requires : tie.Need-apply-requires
+apply-requires c κs = search needs
+
+same-length-2 : tie.Need-same-length-2
+same-length-2 c = search needs
+
+returns-2 : tie.Need-returns-2
+returns-2 c = let a = c .before .before .before .before .before .before .before .before .before .before .before .before .before .before .args in restored (a .cipher) (a .key) (a .nonce) (a .aad) (a .tag) (a .size) (a .id) (a .text .now) _ _ (c .before .before .before .before .before .before .before .before .before .before .before .«open» .ensures) (not-false _ (c .before .before .before .before .before .before .before .before .if1 .left)) _ (c .before .before .before .before .before .before .size-then-walk .ensures) (sym (c .before .before .before .before .before .refused .ensures) ∙ c .before .before .before .before .if2 .taken) _ (c .before .before .apply .ensures (a .aad))
+
+same-length-3 : tie.Need-same-length-3
+same-length-3 c = search needs
+
+returns-3 : tie.Need-returns-3
+returns-3 c = let a = c .before .before .before .before .before .before .before .before .before .before .args in opened (a .cipher) (a .key) (a .nonce) (a .aad) (a .tag) (a .size) (a .id) (a .text .now) _ _ (c .before .before .before .before .before .before .before .«open» .ensures) (not-false _ (c .before .before .before .before .if1 .left)) _ (c .before .before .size-then-walk .ensures) (sym (c .before .refused .ensures) ∙ c .if2 .left)
+
+pub open-text-spec : {M : Type 1} → statement M
+open-text-spec =
+    tie.close
+    (tie.spec
+    open-requires
+    same-length
+    returns
+    size-then-walk-requires
+    refused-requires
+    apply-requires
+    same-length-2
+    returns-2
+    same-length-3
+    returns-3)
