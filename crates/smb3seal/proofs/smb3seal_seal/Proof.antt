@@ -1,0 +1,37 @@
+-- Right because each lent place holds what the answer of sealing under one key says (seals-out).
+-- Assumes nothing.
+use Rattle.transform.specs.UnderKey.{protectionOf}
+use Rattle.transform.proofs.Sealing.{last-refused}
+use Rattle.smb3seal.proofs.Laws.{seals-out}
+use borrow.Author.Needs.{needs}
+use Rattle.smb3seal.proofs.smb3seal_seal.Statement.{statement}
+use Rattle.smb3seal.proofs.smb3seal_seal.Tie as tie
+
+seal-under-requires : tie.Need-seal-under-requires
+seal-under-requires c κs = search needs
+
+counter-after-requires : tie.Need-counter-after-requires
+counter-after-requires c κs = let a = c .before .before .before .before .before .before .before .args in last-refused (protectionOf (a .dialect) (a .encryption) (a .cipher)) (a .key .now) (a .id) (a .counter .now) (a .message .now) _ _ (c .before .before .seal-under .ensures)
+
+headers-after-requires : tie.Need-headers-after-requires
+headers-after-requires c κs = search needs
+
+number-requires : tie.Need-number-requires
+number-requires c κs = search needs
+
+same-length : tie.Need-same-length
+same-length c = search needs
+
+returns : tie.Need-returns
+returns c = let a = c .before .before .before .before .before .before .before .before .before .before .before .args in seals-out (protectionOf (a .dialect) (a .encryption) (a .cipher)) (a .key .now) (a .id) (a .message .now) _ _ (a .headers .now) _ _ (c .before .headers-after .ensures) (c .number .ensures) (a .counter .now) _ (c .before .before .before .counter-after .ensures) (c .before .before .before .before .before .before .seal-under .ensures)
+
+pub smb3seal-seal-spec : {M : Type 1} → statement M
+smb3seal-seal-spec =
+    tie.close
+    (tie.spec
+    seal-under-requires
+    counter-after-requires
+    headers-after-requires
+    number-requires
+    same-length
+    returns)
