@@ -1,0 +1,4 @@
+pub mod ChainLaws
+pub mod TableLaws
+pub mod OpeningLaws
+pub mod Demand3
