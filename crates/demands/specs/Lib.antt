@@ -1,2 +1,5 @@
 pub mod Chains
 pub mod Demand3
+pub mod Lines
+pub mod Walk
+pub mod Demand1
