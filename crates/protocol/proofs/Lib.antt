@@ -9,3 +9,4 @@ pub mod HashLengths
 pub mod SuiteLaws
 pub mod PLines
 pub mod Figures
+pub mod WalkLaws

@@ -1,5 +1,5 @@
--- The four keys of a session: document 01, "Keys"; MS-SMB2 3.1.4.2.
--- `kdf` is a parameter here: key, label and context give 16 bytes. The suite puts SP 800-108 in counter mode in its place.
+-- The four keys of a session: document 01, "Keys"; MS-SMB2 3.1.4.2 and 3.2.5.3.1.
+-- `kdf` is a parameter here: from key, label and context to 16 bytes. The suite puts SP 800-108 in counter mode in its place.
 -- Assumes nothing.
 use mathlib.Core.Bool.{Bool, cond, not, _||_}
 use mathlib.Core.List.{List, [], _∷_, _++_}
@@ -10,19 +10,20 @@ use Rattle.octets.specs.Blocks.{zeroPadded}
 use Rattle.protocol.specs.Bytes.{Bytes}
 use Rattle.protocol.specs.Answer.{Test, refuse_when_, firstOf}
 
--- 3.0, 3.0.2 and 3.1.1: "What the library covers"
+-- document 01, "What the library covers": "dialects 3.0 (0x0300), 3.0.2 (0x0302), 3.1.1 (0x0311)"
 abbrev pub knownDialect : ℕ → Bool
 knownDialect d = eqb d 0x0300 || eqb d 0x0302 || eqb d 0x0311
 
--- the first 16 bytes of the material given, padded right with zeros
+-- "first 16 bytes of the material given, padded right with zeros"
 abbrev pub sessionKey : Bytes → Bytes
 sessionKey material = zeroPadded 16 material
 
--- what HMAC-SHA-256, keyed with the session key, is over: "00 00 00 01, label, 00, context, 00 00 00 80"
+-- what a key is the HMAC-SHA-256 of: "00 00 00 01, label, 00, context, 00 00 00 80". That the suite's `kdf` takes the first 16
+-- bytes of it, keyed with the session key, is `kdf-of-document` in proofs/
 unfoldable pub derivationInput : Bytes → Bytes → Bytes
 derivationInput label context = 0 ∷ 0 ∷ 0 ∷ 1 ∷ (label ++ (0 ∷ (context ++ (0 ∷ 0 ∷ 0 ∷ 0x80 ∷ []))))
 
--- ---- the table's labels for 3.1.1, each with its final zero byte
+-- ---- "Labels and fixed contexts carry their own final zero byte." The table's column "3.1.1 label"
 
 -- "SMBSigningKey"
 unfoldable pub smbSigningKey : Bytes
@@ -40,7 +41,7 @@ smbC2SCipherKey = 0x53 ∷ 0x4D ∷ 0x42 ∷ 0x43 ∷ 0x32 ∷ 0x53 ∷ 0x43 ∷
 unfoldable pub smbS2CCipherKey : Bytes
 smbS2CCipherKey = 0x53 ∷ 0x4D ∷ 0x42 ∷ 0x53 ∷ 0x32 ∷ 0x43 ∷ 0x43 ∷ 0x69 ∷ 0x70 ∷ 0x68 ∷ 0x65 ∷ 0x72 ∷ 0x4B ∷ 0x65 ∷ 0x79 ∷ 0 ∷ []
 
--- ---- the table's labels for 3.0 and 3.0.2
+-- ---- the table's column "3.0, 3.0.2 label"
 
 -- "SMB2AESCMAC"
 unfoldable pub smb2AesCmac : Bytes
@@ -54,7 +55,7 @@ smb2App = 0x53 ∷ 0x4D ∷ 0x42 ∷ 0x32 ∷ 0x41 ∷ 0x50 ∷ 0x50 ∷ 0 ∷ [
 unfoldable pub smb2AesCcm : Bytes
 smb2AesCcm = 0x53 ∷ 0x4D ∷ 0x42 ∷ 0x32 ∷ 0x41 ∷ 0x45 ∷ 0x53 ∷ 0x43 ∷ 0x43 ∷ 0x4D ∷ 0 ∷ []
 
--- ---- the table's contexts for 3.0 and 3.0.2
+-- ---- the table's column "3.0, 3.0.2 context"
 
 -- "SmbSign"
 unfoldable pub smbSign : Bytes
@@ -64,7 +65,7 @@ smbSign = 0x53 ∷ 0x6D ∷ 0x62 ∷ 0x53 ∷ 0x69 ∷ 0x67 ∷ 0x6E ∷ 0 ∷ [
 unfoldable pub smbRpc : Bytes
 smbRpc = 0x53 ∷ 0x6D ∷ 0x62 ∷ 0x52 ∷ 0x70 ∷ 0x63 ∷ 0 ∷ []
 
--- "ServerIn ", which ends in a space
+-- "ServerIn ": "ends in a space"
 unfoldable pub serverIn : Bytes
 serverIn = 0x53 ∷ 0x65 ∷ 0x72 ∷ 0x76 ∷ 0x65 ∷ 0x72 ∷ 0x49 ∷ 0x6E ∷ 0x20 ∷ 0 ∷ []
 
@@ -80,12 +81,12 @@ pub record Keys : Type 0 where
   pub clientToServer : Bytes
   pub serverToClient : Bytes
 
--- "writes the four keys in the order of the table"
+-- document 01, "Numbers a caller can get back": "writes the four keys in the order of the table"
 abbrev pub keysInOrder : Keys → Bytes
 keysInOrder k = k .signing ++ (k .application ++ (k .clientToServer ++ k .serverToClient))
 
 module _ (kdf : Bytes → Bytes → Bytes → Bytes) where
-  -- the column of 3.1.1: the context is the chain value
+  -- "For 3.1.1 the context is the 64-byte chain value."
   abbrev pub keys311 : Bytes → Bytes → Keys
   keys311 chain key =
       record {
@@ -95,7 +96,7 @@ module _ (kdf : Bytes → Bytes → Bytes → Bytes) where
         serverToClient = kdf key smbS2CCipherKey chain;
       }
 
-  -- the columns of 3.0 and 3.0.2
+  -- the rows of 3.0 and 3.0.2
   abbrev pub keys300 : Bytes → Keys
   keys300 key =
       record {
@@ -105,7 +106,7 @@ module _ (kdf : Bytes → Bytes → Bytes → Bytes) where
         serverToClient = kdf key smb2AesCcm serverOut;
       }
 
-  -- from the session key
+  -- from the dialect, the chain value and the session key
   unfoldable pub derivedKeys : ℕ → Bytes → Bytes → Keys
   derivedKeys dialect chain key = cond (eqb dialect 0x0311) (keys311 chain key) (keys300 key)
 

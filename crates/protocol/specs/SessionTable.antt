@@ -1,4 +1,4 @@
--- The session table: a run of session records. Lookup, adding and removing: document 01, "Keys" and its numbers 18 to 22, 6 and 40.
+-- The session table: document 01, "What the library covers" and "Keys", and its numbers 18 to 22, 6 and 40.
 -- Assumes nothing.
 use mathlib.Core.Bool.{Bool, true, false, cond, not, _&&_, _||_}
 use mathlib.Core.List.{List, [], _∷_}
@@ -9,6 +9,7 @@ use Rattle.protocol.specs.Bytes.{Bytes}
 use Rattle.protocol.specs.Answer.{Test, refuse_when_, firstOf}
 use Rattle.protocol.specs.Keys.{Keys, knownDialect, sessionKey, derivedKeys}
 
+-- "a lent run of session records: used or free, id, guest, anonymous, four 16-byte keys, 64-bit send counter"
 pub record Session : Type 0 where
   pub used : Bool
   pub id : ℕ
@@ -23,7 +24,7 @@ zeroKey = replicate 16 0
 abbrev pub zeroKeys : Keys
 zeroKeys = record { signing = zeroKey; application = zeroKey; clientToServer = zeroKey; serverToClient = zeroKey }
 
--- a free record, all zero
+-- "free and all zero"
 abbrev pub freeRecord : Session
 freeRecord =
     record { used = false; id = 0; guest = false; anonymous = false; keys = zeroKeys; counter = 0 }
@@ -31,30 +32,33 @@ freeRecord =
 abbrev pub withCounter : ℕ → Session → Session
 withCounter n s = record { used = s .used; id = s .id; guest = s .guest; anonymous = s .anonymous; keys = s .keys; counter = n }
 
+-- ---- "Lookup takes the first used record with the id"
+
 abbrev pub isSession : ℕ → Session → Bool
 isSession i s = s .used && eqb (s .id) i
 
--- the first used record with the id, or a free one if there is none
+-- that record, or a free one if there is none
 abbrev pub recordOf : ℕ → List Session → Session
 recordOf i [] = freeRecord
 recordOf i (s ∷ t) = cond (isSession i s) s (recordOf i t)
 
--- f at the first used record with the id
+-- the table with f of that record in its place
 abbrev pub changeRecord : (Session → Session) → ℕ → List Session → List Session
 changeRecord f i [] = []
 changeRecord f i (s ∷ t) = cond (isSession i s) (f s ∷ t) (s ∷ changeRecord f i t)
+
+-- ---- "Adding uses the first free record, with counter 0."
 
 abbrev pub hasFree : List Session → Bool
 hasFree [] = false
 hasFree (s ∷ t) = not (s .used) || hasFree t
 
--- new in the first free record
+-- the table with a new record in the place of its first free one
 abbrev pub fillFree : Session → List Session → List Session
 fillFree new [] = []
 fillFree new (s ∷ t) = cond (s .used) (s ∷ fillFree new t) (new ∷ t)
 
--- ---- adding
-
+-- what adding is given
 pub record Adding : Type 0 where
   pub dialect : ℕ
   pub chain : Bytes
@@ -63,6 +67,7 @@ pub record Adding : Type 0 where
   pub guest : Bool
   pub anonymous : Bool
 
+-- "adding 18 to 22", and 40 before them
 abbrev pub addTests : Adding → List Session → List Test
 addTests a t =
     (refuse 40 when not (eqb (length (a .chain)) 64))
@@ -76,7 +81,7 @@ addTests a t =
 unfoldable pub addNumber : Adding → List Session → ℕ
 addNumber a t = firstOf (addTests a t)
 
--- guest and anonymous records hold zero cipher keys
+-- "Guest and anonymous records hold zero cipher keys."
 abbrev pub keysHeld : Bool → Keys → Keys
 keysHeld true k = record { signing = k .signing; application = k .application; clientToServer = zeroKey; serverToClient = zeroKey }
 keysHeld false k = k
@@ -97,7 +102,7 @@ module _ (kdf : Bytes → Bytes → Bytes → Bytes) where
   abbrev pub tableAfterAdding : Adding → List Session → List Session
   tableAfterAdding a t = cond (eqb (addNumber a t) 0) (fillFree (newRecord a) t) t
 
--- ---- removing
+-- ---- "Removing makes the first used record of that id free and all zero, or answers 6 if there is none"
 
 abbrev pub removeNumber : ℕ → List Session → ℕ
 removeNumber i t = firstOf ((refuse 6 when not ((recordOf i t) .used)) ∷ [])

@@ -1,4 +1,5 @@
--- Sealing and opening with the session table: document 01, "Transform header", "Keys" and the numbers 1 to 17.
+-- Sealing and opening with the session table: document 01, "Transform header", "Keys" and the numbers 1 to 17; MS-SMB2 3.1.4.3 and
+-- 3.3.5.2.1.1.
 -- Assumes nothing.
 use mathlib.Core.Bool.{Bool, _||_, not}
 use mathlib.Core.List.{List, [], _∷_, _++_}
@@ -20,7 +21,7 @@ abbrev pub other : Role → Role
 other client = server
 other server = client
 
--- a client seals with the first cipher key, a server with the second
+-- "A client seals with the first cipher key and opens with the second; a server the other way round."
 abbrev pub sealingKey : Role → Keys → Bytes
 sealingKey client k = k .clientToServer
 sealingKey server k = k .serverToClient
@@ -33,7 +34,7 @@ pub record Connection : Type 0 where
   pub protection : Protection
   pub constrained : Bool
 
--- the tests on the record s that lookup took
+-- 6 to 8, on the record s that lookup took
 abbrev pub recordTests : Connection → Session → List Test
 recordTests c s =
     (refuse 6 when not (s .used))
@@ -41,7 +42,7 @@ recordTests c s =
     ∷ (refuse 8 when s .guest || s .anonymous)
     ∷ []
 
--- the counter goes up by one and nothing else changes
+-- "The counter goes up by one and nothing else in the table changes."
 abbrev pub countUp : Session → Session
 countUp s = withCounter (s .counter + 1) s
 
@@ -56,7 +57,7 @@ module _ (P : Primitives) where
       judge (sealTests (c .protection) m ++ recordTests c (recordOf id t))
       (judgeAfter (walk (inner m) id) (counterTests ((recordOf id t) .counter)))
 
-  -- what is written under the record s
+  -- what the buffer holds after sealing its inner message p under the record s
   abbrev pub sealedWith : Connection → ℕ → Bytes → Session → Bytes
   sealedWith c id p s = sealedUnder (P .ciphers) (cipherUsed (c .protection)) (sealingKey (c .role) (s .keys)) (s .counter) id p
 
@@ -84,7 +85,7 @@ module _ (P : Primitives) where
   abbrev pub openAnswer : Connection → Bytes → List Session → Answer
   openAnswer c m t = openWith c m (recordOf (sessionIdOf m) t)
 
-  -- the header stays, the rest is replaced by the plaintext
+  -- "Opening leaves the header, replaces the rest by the plaintext, and never changes the table."
   abbrev pub openBuffer : Answer → Connection → Bytes → List Session → Bytes
   openBuffer a c m t = whenDone a (take 52 m ++ Option·getD (plaintext c m (recordOf (sessionIdOf m) t)) []) m
 
