@@ -1,4 +1,3 @@
-pub mod Judging
 pub mod Magic
 pub mod TestLaws
 pub mod WalkLaws

@@ -10,7 +10,7 @@ use lib.ListN.{length}
 use Rattle.protocol.specs.Bytes.{Bytes}
 use Rattle.protocol.specs.Answer.{done, refused, firstOf, judge}
 use Rattle.protocol.specs.CompoundWalk.{nextCommand, firstHeaderTests, nextHeaderTests, walkOn, walk}
-use Rattle.compound.proofs.Judging.{NoneApplies, refuses, passes, judge-passed}
+use Rattle.protocol.proofs.Judging.{NoneApplies, refuses, passes, judge-passed}
 
 -- at the header at p, the n-th, nothing was found so far
 pub record Walking (m : Bytes) (id p n : ℕ) : Type 0 where

@@ -24,20 +24,27 @@ is-related-requires c κs = search needs
 returns-3 : tie.Need-returns-3
 returns-3 c =
     let a = c .before .before .before .before .before .before .args in
-    first-13 (a .m .now) (a .id) (c .before .before .before .before .if1 .left) (sym (c .before .before .before .is-header .ensures) ∙ not-false _ (c .before .before .if2 .left)) (sym (c .before .is-related .ensures) ∙ c .if3 .taken)
+    let header = sym (c .before .before .before .is-header .ensures) ∙ not-false _ (c .before .before .if2 .left) in
+    first-13 (a .m .now) (a .id) (c .before .before .before .before .if1 .left) header (sym (c .before .is-related .ensures) ∙ c .if3 .taken)
 
 session-id-requires : tie.Need-session-id-requires
 session-id-requires c κs = search needs
 
 returns-4 : tie.Need-returns-4
 returns-4 c =
-    let a = c .before .before .before .before .before .before .before .before .args in
-    first-14 (a .m .now) (a .id) (c .before .before .before .before .before .before .if1 .left) (sym (c .before .before .before .before .before .is-header .ensures) ∙ not-false _ (c .before .before .before .before .if2 .left)) (sym (c .before .before .before .is-related .ensures) ∙ c .before .before .if3 .left) (λ e. c .if4 .taken (c .before .session-id .ensures ∙ e))
+    let past = c .before .before in
+    let a = past .before .before .before .before .before .before .args in
+    let header = sym (past .before .before .before .is-header .ensures) ∙ not-false _ (past .before .before .if2 .left) in
+    let unrelated = sym (past .before .is-related .ensures) ∙ past .if3 .left in
+    first-14 (a .m .now) (a .id) (past .before .before .before .before .if1 .left) header unrelated (λ e. c .if4 .taken (c .before .session-id .ensures ∙ e))
 
 returns-5 : tie.Need-returns-5
 returns-5 c =
-    let a = c .before .before .before .before .before .before .before .before .args in
-    first-none (a .m .now) (a .id) (c .before .before .before .before .before .before .if1 .left) (sym (c .before .before .before .before .before .is-header .ensures) ∙ not-false _ (c .before .before .before .before .if2 .left)) (sym (c .before .before .before .is-related .ensures) ∙ c .before .before .if3 .left) (sym (c .before .session-id .ensures) ∙ c .if4 .left)
+    let past = c .before .before in
+    let a = past .before .before .before .before .before .before .args in
+    let header = sym (past .before .before .before .is-header .ensures) ∙ not-false _ (past .before .before .if2 .left) in
+    let unrelated = sym (past .before .is-related .ensures) ∙ past .if3 .left in
+    first-none (a .m .now) (a .id) (past .before .before .before .before .if1 .left) header unrelated (sym (c .before .session-id .ensures) ∙ c .if4 .left)
 
 pub first-number-spec : {M : Type 1} → statement M
 first-number-spec =

@@ -49,13 +49,19 @@ session-id-requires c κs = search needs
 
 returns-5 : tie.Need-returns-5
 returns-5 c =
-    let a = c .before .before .before .before .before .before .before .before .before .args in
-    next-14 (a .m .now) (a .id) (a .p) (a .d) (c .before .before .before .before .before .before .before .if1 .left) (omega arith) (c .before .before .before .before .before .if3 .left) (sym (c .before .before .before .before .is-header .ensures) ∙ not-false _ (c .before .before .before .if4 .left)) (sym (ap₂ (λ (r : Bool) (i : ℕ). not r && not (eqb i (a .id))) (c .before .before .is-related .ensures) (c .before .session-id .ensures)) ∙ c .if5 .taken)
+    let past = c .before .before .before in
+    let a = past .before .before .before .before .before .before .args in
+    let header = sym (past .before .is-header .ensures) ∙ not-false _ (past .if4 .left) in
+    let said = sym (ap₂ (λ (r : Bool) (i : ℕ). not r && not (eqb i (a .id))) (c .before .before .is-related .ensures) (c .before .session-id .ensures)) in
+    next-14 (a .m .now) (a .id) (a .p) (a .d) (past .before .before .before .before .if1 .left) (omega arith) (past .before .before .if3 .left) header (said ∙ c .if5 .taken)
 
 returns-6 : tie.Need-returns-6
 returns-6 c =
-    let a = c .before .before .before .before .before .before .before .before .before .args in
-    next-none (a .m .now) (a .id) (a .p) (a .d) (c .before .before .before .before .before .before .before .if1 .left) (omega arith) (c .before .before .before .before .before .if3 .left) (sym (c .before .before .before .before .is-header .ensures) ∙ not-false _ (c .before .before .before .if4 .left)) (sym (ap₂ (λ (r : Bool) (i : ℕ). not r && not (eqb i (a .id))) (c .before .before .is-related .ensures) (c .before .session-id .ensures)) ∙ c .if5 .left)
+    let past = c .before .before .before in
+    let a = past .before .before .before .before .before .before .args in
+    let header = sym (past .before .is-header .ensures) ∙ not-false _ (past .if4 .left) in
+    let said = sym (ap₂ (λ (r : Bool) (i : ℕ). not r && not (eqb i (a .id))) (c .before .before .is-related .ensures) (c .before .session-id .ensures)) in
+    next-none (a .m .now) (a .id) (a .p) (a .d) (past .before .before .before .before .if1 .left) (omega arith) (past .before .before .if3 .left) header (said ∙ c .if5 .left)
 
 pub next-number-spec : {M : Type 1} → statement M
 next-number-spec =

@@ -1,0 +1,26 @@
+-- Right because a message that 23 admits is long enough to have a status.
+-- Assumes nothing.
+use Rattle.preauth.proofs.FoldLaws.{limits}
+use Rattle.protocol.specs.Preauth.{setupResponse}
+use native.Mathlib.Omega.{arith}
+use borrow.Author.Needs.{needs}
+use Rattle.preauth.proofs.fold_response.Statement.{statement}
+use Rattle.preauth.proofs.fold_response.Tie as tie
+
+asks-for-more-requires : tie.Need-asks-for-more-requires
+asks-for-more-requires c κs = search needs
+
+fold-if-requires : tie.Need-fold-if-requires
+fold-if-requires c κs = search needs
+
+same-length : tie.Need-same-length
+same-length c = search needs
+
+returns : tie.Need-returns
+returns c =
+    let m = c .before .before .before .before .before .before .before .args .message .now in
+    c .before .before .fold-if .ensures setupResponse (λ fits. c .before .before .before .asks-for-more .ensures (omega (arith, limits m fits .0)))
+
+pub fold-response-spec : {M : Type 1} → statement M
+fold-response-spec =
+    tie.close (tie.spec asks-for-more-requires fold-if-requires same-length returns)

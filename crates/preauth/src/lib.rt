@@ -1,0 +1,105 @@
+// The preauthentication integrity hash: messages folded into a chain value (document 01, "Chain").
+use octets::little_endian::u32_at;
+use octets::runs::copy;
+use sha512::Sha512;
+ghost use mathlib.Core.Path.{_≡_};
+ghost use mathlib.Core.Bool.{true};
+ghost use mathlib.Core.List.{_++_};
+ghost use Prim.Native.Nat.{_≤_};
+ghost use lib.ListN.{length};
+ghost use Rattle.protocol.specs.Preauth.{FoldKind, negotiateMessage, setupRequest, setupResponse, admitted, longestMessage, moreProcessing, statusAllows, foldNumber};
+ghost use Rattle.protocol.specs.Suite.{sha512};
+ghost use Rattle.preauth.specs.Foldings.{answerOf, foldedAfter, Folds};
+
+const LONGEST_MESSAGE: usize = 1048576;
+
+// STATUS_MORE_PROCESSING_REQUIRED
+const MORE_PROCESSING: u32 = 0xC0000016;
+
+// What folding answers. "Not folded" is a done answer, with that mark.
+pub enum Folding {
+    FoldedIn,
+    NotFolded,
+    Refused(u32),
+}
+
+// The number that a caller gets.
+pub fn number(f: Folding) -> u32
+    ensures { λ r. ⌜ r ≡ foldNumber (answerOf f) ⌝ }
+{
+    match f {
+        Folding::FoldedIn => 0,
+        Folding::NotFolded => 0,
+        Folding::Refused(n) => n,
+    }
+}
+
+// What the caller's place for the mark holds afterwards: 1 folded, 0 not folded.
+pub fn folded_after(f: Folding, lent: u32) -> u32
+    ensures { λ r. ⌜ r ≡ foldedAfter (answerOf f) lent ⌝ }
+{
+    match f {
+        Folding::FoldedIn => 1,
+        Folding::NotFolded => 0,
+        Folding::Refused(_) => lent,
+    }
+}
+
+// 23 is not given.
+fn admits(message: &[u8]) -> bool
+    ensures { λ r. ⌜ r ≡ admitted (now (message .entry)) ⌝ }
+{
+    (64 <= message.len()) & (message.len() <= LONGEST_MESSAGE)
+}
+
+// The status of a message that is long enough to have one.
+fn asks_for_more(message: &[u8]) -> bool
+    ensures { λ r. ⌜ (12 ≤ length (now (message .entry)) → r ≡ moreProcessing (now (message .entry))) ⌝ }
+{
+    if message.len() < 12 {
+        return false;
+    }
+    u32_at(message, 8) == MORE_PROCESSING
+}
+
+// SHA-512 of the old value followed by the message.
+fn next_value(old: &[u8], message: &[u8]) -> [u8; 64]
+    requires { ⌜ (length (now old) ≡ 64) × (length (now message) ≤ longestMessage) ⌝ }
+    ensures { λ r. ⌜ r ≡ sha512 (now (old .entry) ++ now (message .entry)) ⌝ }
+{
+    Sha512::new().update(old).update(message).finish()
+}
+
+// Folds a message whose status allows it or not. The status of a message that 23 refuses counts for nothing.
+fn fold_if(chain: &mut [u8], message: &[u8], allowed: bool) -> Folding
+    ensures { λ r. ⌜ ((kind : FoldKind) → (admitted (now (message .entry)) ≡ true → allowed ≡ statusAllows kind (now (message .entry)))
+        → Folds kind (now (chain .entry)) (now (message .entry)) r (now (chain .exit))) ⌝ }
+{
+    if chain.len() != 64 {
+        return Folding::Refused(40);
+    }
+    if !admits(message) {
+        return Folding::Refused(23);
+    }
+    if !allowed {
+        return Folding::NotFolded;
+    }
+    let value = next_value(chain, message);
+    copy(chain, 0, &value);
+    Folding::FoldedIn
+}
+
+// A negotiate message or a session setup request: always folded.
+pub fn fold(chain: &mut [u8], message: &[u8]) -> Folding
+    ensures { λ r. ⌜ Folds negotiateMessage (now (chain .entry)) (now (message .entry)) r (now (chain .exit))
+        × Folds setupRequest (now (chain .entry)) (now (message .entry)) r (now (chain .exit)) ⌝ }
+{
+    fold_if(chain, message, true)
+}
+
+// A session setup response: folded only if its status asks for more.
+pub fn fold_response(chain: &mut [u8], message: &[u8]) -> Folding
+    ensures { λ r. ⌜ Folds setupResponse (now (chain .entry)) (now (message .entry)) r (now (chain .exit)) ⌝ }
+{
+    fold_if(chain, message, asks_for_more(message))
+}
