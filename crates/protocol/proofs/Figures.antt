@@ -2,19 +2,21 @@
 -- Assumes nothing.
 use mathlib.Core.Path.{_≡_, refl}
 use mathlib.Core.Bool.{true, false}
-use mathlib.Core.List.{List, [], _∷_, _++_}
-use Prim.Native.Nat.{ℕ, _+_}
+use mathlib.Core.List.{List, [], _∷_}
+use Prim.Native.Nat.{ℕ}
 use native.Mathlib.Omega.{arith}
 use lib.ListN.{length, take, replicate, length-append}
 use lib.Seq.{length-take-le}
 use Rattle.octets.specs.Numbers.{littleEndian, toLittleEndian, toBigEndian}
+use Rattle.octets.specs.Blocks.{zeroPadded}
 use Rattle.octets.specs.Same.{sameBytes}
 use Rattle.ccm.specs.Formatting.{flags, associated, counterBlock}
 use Rattle.gcm.specs.Gcm.{preCounterBlock}
 use Rattle.protocol.specs.Bytes.{Bytes}
 use Rattle.protocol.specs.Answer.{refused}
 use Rattle.protocol.specs.CompoundWalk.{walk}
-use Rattle.protocol.specs.Keys.{smbSigningKey, smbAppKey, smbC2SCipherKey, smbS2CCipherKey, smb2AesCmac, smb2App, smb2AesCcm, smbSign, smbRpc, serverIn, serverOut}
+use Rattle.protocol.specs.Preauth.{setupResponse, foldRefused, foldAnswer, freshChain}
+use Rattle.protocol.specs.Keys.{sessionKey, smbSigningKey, smbAppKey, smbC2SCipherKey, smbS2CCipherKey, smb2AesCmac, smb2App, smb2AesCcm, smbSign, smbRpc, serverIn, serverOut}
 use Rattle.protocol.specs.TransformHeader.{nonceOf, authenticated}
 use Rattle.protocol.specs.UnderKey.{Protection, lastCounter, sealUnderKeyAnswer, openUnderKeyAnswer}
 use Rattle.protocol.specs.Suite.{ciphers, ccmNonce, gcmNonce}
@@ -35,6 +37,10 @@ pub record Figures : Type 0 where
   pub labels-311 : lengths (smbSigningKey ∷ smbAppKey ∷ smbC2SCipherKey ∷ smbS2CCipherKey ∷ []) ≡ 14 ∷ 10 ∷ 16 ∷ 16 ∷ []
   pub labels-300 : lengths (smb2AesCmac ∷ smb2App ∷ smb2AesCcm ∷ []) ≡ 12 ∷ 8 ∷ 11 ∷ []
   pub contexts-300 : lengths (smbSign ∷ smbRpc ∷ serverIn ∷ serverOut ∷ []) ≡ 8 ∷ 7 ∷ 10 ∷ 10 ∷ []
+  -- "padded right with zeros"
+  pub short-material : sessionKey (1 ∷ 2 ∷ []) ≡ 1 ∷ 2 ∷ replicate 14 0
+  -- "Chain": "23 is tested before the status"
+  pub length-first : foldAnswer freshChain (record { kind = setupResponse; message = replicate 63 0 }) ≡ foldRefused 23
   -- "Ciphers": the flag byte of CCM's first block, and what its authenticated data begin with
   pub first-flags : (n size id : ℕ) → flags 4 16 (length (authenticated n size id)) ≡ 0x7B
   pub associated-begins : (n size id : ℕ) → take 2 (associated (authenticated n size id)) ≡ 0 ∷ 0x20 ∷ []
@@ -55,12 +61,14 @@ unfolding toBigEndian
 gcm-blocks nonce l = simp length-append (omega (arith, length-take-le 12 nonce (omega arith)))
 
 pub figures : Figures
-unfolding smbSigningKey smbAppKey smbC2SCipherKey smbS2CCipherKey smb2AesCmac smb2App smb2AesCcm smbSign smbRpc serverIn serverOut nonceOf authenticated toLittleEndian littleEndian toBigEndian sameBytes flags associated walk sealUnderKeyAnswer openUnderKeyAnswer
+unfolding smbSigningKey smbAppKey smbC2SCipherKey smbS2CCipherKey smb2AesCmac smb2App smb2AesCcm smbSign smbRpc serverIn serverOut zeroPadded nonceOf authenticated toLittleEndian littleEndian toBigEndian sameBytes flags associated walk sealUnderKeyAnswer openUnderKeyAnswer
 figures =
     record {
       labels-311 = refl;
       labels-300 = refl;
       contexts-300 = refl;
+      short-material = refl;
+      length-first = refl;
       first-flags = λ n size id. refl;
       associated-begins = λ n size id. refl;
       ccm-blocks = ccm-blocks;

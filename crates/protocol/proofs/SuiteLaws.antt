@@ -4,7 +4,6 @@ use mathlib.Core.Path.{_≡_, refl}
 use mathlib.Core.Bool.{Bool, true, false, cond}
 use mathlib.Core.Option.{some}
 use Prim.Native.Nat.{ℕ}
-use native.Mathlib.Omega.{arith}
 use lib.Dec.{eqb, lit≤}
 use lib.ListN.{length, take}
 use Rattle.octets.specs.Numbers.{toBigEndian}
@@ -15,14 +14,12 @@ use Rattle.sha2.specs.Sha512 as sha2
 use Rattle.sha2.specs.Sha256.{sha256}
 use Rattle.hmac.specs.Hmac.{hmac}
 use Rattle.kdf.specs.CounterMode.{derive, deriveSha256, blocks, block, fixedInput}
-use Rattle.ccm.specs.Ccm as ccm
 use Rattle.ccm.proofs.CcmLaws as ccm-laws
-use Rattle.gcm.specs.Gcm as gcm
 use Rattle.gcm.proofs.GcmLaws as gcm-laws
 use Rattle.protocol.specs.Bytes.{Bytes}
 use Rattle.protocol.specs.Keys.{derivationInput}
 use Rattle.protocol.specs.Sound.{Sound}
-use Rattle.protocol.specs.Suite.{suite, sha512, kdf, ciphers, aes128, ccmNonce, gcmNonce, Cipher, aes128Ccm, aes128Gcm, cipherOf}
+use Rattle.protocol.specs.Suite.{suite, sha512, kdf, aes128, ccmNonce, gcmNonce, Cipher, aes128Ccm, aes128Gcm, cipherOf}
 use Rattle.protocol.proofs.HashLengths.{length-hash, length-derived}
 
 -- ---- each part is what its own crate defines
@@ -39,31 +36,6 @@ kdf-is key label context = refl
 pub kdf-of-document : (key label context : Bytes) → kdf key label context ≡ take 16 (hmac sha256 key (derivationInput label context))
 unfolding suite derive blocks block fixedInput toBigEndian derivationInput
 kdf-of-document key label context = refl
-
-module _ (key nonce auth : Bytes) where
-  pub ccm-encrypts : (p : Bytes) → ciphers .encrypt 1 key nonce auth p ≡ ccm.encrypt (aes128 key) (ccmNonce nonce) p
-  unfolding suite cipherOf
-  ccm-encrypts p = refl
-
-  pub gcm-encrypts : (p : Bytes) → ciphers .encrypt 2 key nonce auth p ≡ gcm.encrypt (aes128 key) (gcmNonce nonce) p
-  unfolding suite cipherOf
-  gcm-encrypts p = refl
-
-  pub ccm-tags : (p : Bytes) → ciphers .tag 1 key nonce auth p ≡ ccm.tag (aes128 key) (ccmNonce nonce) auth p
-  unfolding suite cipherOf
-  ccm-tags p = refl
-
-  pub gcm-tags : (p : Bytes) → ciphers .tag 2 key nonce auth p ≡ gcm.tag (aes128 key) (gcmNonce nonce) auth (gcm.encrypt (aes128 key) (gcmNonce nonce) p)
-  unfolding suite cipherOf
-  gcm-tags p = refl
-
-  pub ccm-decrypts : (t body : Bytes) → ciphers .decrypt 1 key nonce auth t body ≡ ccm.decrypt (aes128 key) (ccmNonce nonce) auth t body
-  unfolding suite cipherOf
-  ccm-decrypts t body = refl
-
-  pub gcm-decrypts : (t body : Bytes) → ciphers .decrypt 2 key nonce auth t body ≡ gcm.decrypt (aes128 key) (gcmNonce nonce) auth t body
-  unfolding suite cipherOf
-  gcm-decrypts t body = refl
 
 -- ---- what is relied on
 

@@ -1,20 +1,19 @@
 -- The table's calls are the calls under the record's key; and only the record that lookup takes bears on an answer.
 -- Assumes nothing.
-use mathlib.Core.Path.{_≡_, refl, sym, ap, _∙_}
-use mathlib.Core.Bool.{Bool, true, false, cond, not, _||_}
-use mathlib.Core.List.{List, [], _∷_, _++_}
+use mathlib.Core.Path.{_≡_, refl, sym, ap, ap₂, _∙_}
+use mathlib.Core.Bool.{true, false, not, _||_}
+use mathlib.Core.List.{List, [], _++_}
 use mathlib.Core.Option.{Option·getD}
 use Prim.Native.Nat.{ℕ}
 use borrow.Author.Tests.{eq-eqb}
-use lib.ListN.{length}
-use lib.Dec.{eqb}
+use lib.ListN.{length, take}
 use Rattle.protocol.specs.Bytes.{Bytes}
-use Rattle.protocol.specs.Answer.{Answer, refused, Test, refuse_when_, judge, judgeAfter}
+use Rattle.protocol.specs.Answer.{Answer, whenDone, Test, judge, judgeAfter}
 use Rattle.protocol.specs.CompoundWalk.{walk}
 use Rattle.protocol.specs.SessionTable.{Session, recordOf}
 use Rattle.protocol.specs.TransformHeader.{inner, sessionIdOf}
-use Rattle.protocol.specs.UnderKey.{Primitives, cipherUsed, sealTests, counterTests, openTests, tagTests, keyLengthTests, plaintextUnder, sealUnderKeyAnswer, openUnderKeyAnswer}
-use Rattle.protocol.specs.Transform.{Connection, sealingKey, openingKey, recordTests, sealAnswer, openWith, openAnswer}
+use Rattle.protocol.specs.UnderKey.{Primitives, cipherUsed, sealTests, counterTests, openTests, tagTests, keyLengthTests, idTests, plaintextUnder, sealUnderKeyAnswer, openUnderKeyAnswer}
+use Rattle.protocol.specs.Transform.{Connection, sealingKey, openingKey, recordTests, sealAnswer, sealedWith, bufferAfterSealing, plaintext, openWith, openAnswer, bufferAfterOpening}
 use Rattle.protocol.proofs.Judging.{judge-passed, judge-append}
 
 module _ (P : Primitives) (c : Connection) (s : Session) (known : s .used ≡ true) (free : c .constrained ≡ false) (plain : (s .guest || s .anonymous) ≡ false) where
@@ -23,6 +22,9 @@ module _ (P : Primitives) (c : Connection) (s : Session) (known : s .used ≡ tr
 
   key-passes : (key : Bytes) → length key ≡ 16 → (x : Answer) → judge (keyLengthTests key) x ≡ x
   key-passes key l x = judge-passed (keyLengthTests key) x (ap not (eq-eqb (length key) 16 l), tt)
+
+  id-passes : (m : Bytes) (x : Answer) → judge (idTests m (sessionIdOf m)) x ≡ x
+  id-passes m x = judge-passed (idTests m (sessionIdOf m)) x (ap not (eq-eqb (sessionIdOf m) (sessionIdOf m) refl), tt)
 
   -- a seal with the table is a seal under the record's key and counter
   pub seal-by-key : (id : ℕ) (m : Bytes) (t : List Session) → recordOf id t ≡ s → length (sealingKey (c .role) (s .keys)) ≡ 16
@@ -48,10 +50,10 @@ module _ (P : Primitives) (c : Connection) (s : Session) (known : s .used ≡ tr
       judge-append (openTests (c .protection) m) (recordTests c s ++ last) w
       ∙ ap (judge (openTests (c .protection) m)) (judge-append (recordTests c s) last w ∙ record-passes (judge last w))
       ∙ sym (
-      judge-append (keyLengthTests key) (openTests (c .protection) m ++ ((refuse 6 when not (eqb (sessionIdOf m) (sessionIdOf m))) ∷ last)) w
-      ∙ key-passes key l (judge (openTests (c .protection) m ++ ((refuse 6 when not (eqb (sessionIdOf m) (sessionIdOf m))) ∷ last)) w)
-      ∙ judge-append (openTests (c .protection) m) ((refuse 6 when not (eqb (sessionIdOf m) (sessionIdOf m))) ∷ last) w
-      ∙ ap (λ (b : Bool). judge (openTests (c .protection) m) (cond (not b) (refused 6) (judge last w))) (eq-eqb (sessionIdOf m) (sessionIdOf m) refl))
+      judge-append (keyLengthTests key) (openTests (c .protection) m ++ (idTests m (sessionIdOf m) ++ last)) w
+      ∙ key-passes key l _
+      ∙ judge-append (openTests (c .protection) m) (idTests m (sessionIdOf m) ++ last) w
+      ∙ ap (judge (openTests (c .protection) m)) (judge-append (idTests m (sessionIdOf m)) last w ∙ id-passes m (judge last w)))
     where
       key : Bytes
       key = openingKey (c .role) (s .keys)
@@ -62,11 +64,19 @@ module _ (P : Primitives) (c : Connection) (s : Session) (known : s .used ≡ tr
       w : Answer
       w = walk (Option·getD (plaintextUnder (P .ciphers) (cipherUsed (c .protection)) key m) []) (sessionIdOf m)
 
--- what the other records hold changes no answer and no byte
+-- "as long as it takes the same one, what the other records hold changes no answer to opening or sealing", and no byte
 module _ (P : Primitives) (c : Connection) (m : Bytes) (t u : List Session) where
-  pub seal-same-record : (id : ℕ) → recordOf id t ≡ recordOf id u → sealAnswer P c id m t ≡ sealAnswer P c id m u
-  unfolding sealAnswer
-  seal-same-record id e = ap (λ (r : Session). judge (sealTests (c .protection) m ++ recordTests c r) (judgeAfter (walk (inner m) id) (counterTests (r .counter)))) e
+  module _ (id : ℕ) (e : recordOf id t ≡ recordOf id u) where
+    pub seal-same-record : sealAnswer P c id m t ≡ sealAnswer P c id m u
+    unfolding sealAnswer
+    seal-same-record = ap (λ (r : Session). judge (sealTests (c .protection) m ++ recordTests c r) (judgeAfter (walk (inner m) id) (counterTests (r .counter)))) e
 
-  pub open-same-record : recordOf (sessionIdOf m) t ≡ recordOf (sessionIdOf m) u → openAnswer P c m t ≡ openAnswer P c m u
-  open-same-record e = ap (λ (r : Session). openWith P c m r) e
+    pub seal-same-bytes : bufferAfterSealing P c id m t ≡ bufferAfterSealing P c id m u
+    seal-same-bytes = ap₂ (λ (a : Answer) (r : Session). whenDone a (sealedWith P c id (inner m) r) m) seal-same-record e
+
+  module _ (e : recordOf (sessionIdOf m) t ≡ recordOf (sessionIdOf m) u) where
+    pub open-same-record : openAnswer P c m t ≡ openAnswer P c m u
+    open-same-record = ap (λ (r : Session). openWith P c m r) e
+
+    pub open-same-bytes : bufferAfterOpening P c m t ≡ bufferAfterOpening P c m u
+    open-same-bytes = ap (λ (r : Session). whenDone (openWith P c m r) (take 52 m ++ Option·getD (plaintext P c m r) []) m) e
