@@ -1,3 +1,4 @@
+pub mod BoolLaws
 pub mod ChainLaws
 pub mod TableLaws
 pub mod OpeningLaws
@@ -6,3 +7,7 @@ pub mod LineLaws
 pub mod WalkLaws
 pub mod Answering
 pub mod Demand1
+pub mod Padding
+pub mod Carrying
+pub mod Checks
+pub mod Demand2

@@ -2,7 +2,7 @@
 -- Assumes nothing.
 use mathlib.Core.Path.{_≡_, refl, ap, _∙_}
 use mathlib.Core.Logic.{_≢_}
-use mathlib.Core.Bool.{Bool, true, false, cond, not, _&&_, _||_}
+use mathlib.Core.Bool.{Bool, true, false, cond, not}
 use mathlib.Core.List.{[], _∷_}
 use Prim.Native.Nat.{ℕ, zero, suc, _+_, _/_, _%_, _≤_}
 use native.Mathlib.Omega.{arith}
@@ -18,23 +18,8 @@ use Rattle.protocol.specs.CompoundWalk.{isInnerHeader, isRelated, nextCommand, 
 use Rattle.protocol.proofs.Judging.{NoneApplies}
 use Rattle.demands.specs.Lines.{First, None}
 use Rattle.demands.specs.Walk.{Begins, Related, FirstHeader, LaterHeader, Headers, last, next, Walked, BrokenAfter, at-next, further, Broken, at-first, at-later}
+use Rattle.demands.proofs.BoolLaws.{or-false, neither, compared, not-compared}
 use Rattle.demands.proofs.LineLaws.{first-refuses, none-passes, Tested, one, none, tested, none-applies, none-of}
-
-or-false : (a b : Bool) → (a || b) ≡ false → (a ≡ false) × (b ≡ false)
-or-false true b e = absurd (let z : _≡_ {A = ℕ} 0 1 = cc in omega arith)
-or-false false b e = (refl, e)
-
-neither : (a b : Bool) → a ≡ false → b ≡ false → (a || b) ≡ false
-neither a b p q = rw p q
-
-compared : (a b : Bool) → (not a && not b) ≡ false → a ≡ false → b ≡ true
-compared a true e p = refl
-compared true false e p = absurd (let z : _≡_ {A = ℕ} 0 1 = cc in omega arith)
-compared false false e p = absurd (let z : _≡_ {A = ℕ} 0 1 = cc in omega arith)
-
-not-compared : (a b : Bool) → (a ≡ false → b ≡ true) → (not a && not b) ≡ false
-not-compared true b h = refl
-not-compared false b h = ap not (h refl)
 
 module _ (m : Bytes) (id : ℕ) where
   -- ---- each rule as a test

@@ -3,3 +3,5 @@ pub mod Demand3
 pub mod Lines
 pub mod Walk
 pub mod Demand1
+pub mod Opening
+pub mod Demand2
