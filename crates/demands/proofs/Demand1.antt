@@ -21,7 +21,7 @@ use Rattle.protocol.specs.UnderKey.{Primitives, Protection, cipherUsed, keyLeng
 use Rattle.protocol.specs.Transform.{Connection, recordTests, plaintext, sealAnswer, sealBuffer, sealTable, openWith, openAnswer, openBuffer}
 use Rattle.protocol.specs.Suite.{suite}
 use Rattle.demands.specs.Lines.{None, no-line, not-this, Numbered}
-use Rattle.demands.specs.Demand1.{SealUnderKeyAnswers, OpenUnderKeyAnswers, SealAnswers, OpenAnswers, foldTests, removeTests, Numbers, Unchanged, Demand1}
+use Rattle.demands.specs.Demand1.{SealUnderKeyAnswers, OpenUnderKeyAnswers, SealAnswers, OpenAnswers, foldTests, removeTests, Numbers, Orders, Unchanged, Demand1}
 use Rattle.demands.proofs.LineLaws.{numbered, none-applies}
 use Rattle.demands.proofs.Answering.{after-none, answers}
 use Rattle.demands.proofs.TableLaws.{is-used}
@@ -133,6 +133,22 @@ module _ (P : Primitives) where
         opening = open-table;
       }
 
+  orders : Orders P
+  orders =
+      record {
+        derivation = λ d chain material place. refl;
+        folding = λ v f. refl;
+        sealing-under-key = λ c key m. refl;
+        opening-under-key = λ c key id m p. refl;
+        adding = λ a t. refl;
+        removing = λ i t. refl;
+        sealing = λ c m s. refl;
+        opening = λ c m s p. refl;
+        first-header = λ m id. refl;
+        later-header = λ m id p d. refl;
+        counter = λ k. refl;
+      }
+
   unchanged : Unchanged P
   unchanged =
       record {
@@ -151,7 +167,7 @@ module _ (P : Primitives) where
       }
 
   pub holds-of : Demand1 P
-  holds-of = record { numbers = numbers; unchanged = unchanged }
+  holds-of = record { numbers = numbers; orders = orders; unchanged = unchanged }
 
 pub demand1 : Demand1 suite
 demand1 = holds-of suite

@@ -11,3 +11,4 @@ pub mod Padding
 pub mod Carrying
 pub mod Checks
 pub mod Demand2
+pub mod Example

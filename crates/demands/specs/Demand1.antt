@@ -6,12 +6,13 @@ use mathlib.Core.Path.{_≡_}
 use mathlib.Core.Logic.{_≢_, _↔_}
 use mathlib.Core.Bool.{Bool, false, not}
 use mathlib.Core.List.{List, [], _∷_, _++_}
-use mathlib.Core.Option.{Option·getD}
+use mathlib.Core.Option.{Option, Option·getD}
 use Prim.Native.Nat.{ℕ}
 use lib.Dec.{eqb}
 use lib.ListN.{length}
 use Rattle.protocol.specs.Bytes.{Bytes}
 use Rattle.protocol.specs.Answer.{Answer, done, refused, headersAfter, Test, refuse_when_}
+use Rattle.protocol.specs.CompoundWalk.{firstHeaderTests, nextHeaderTests}
 use Rattle.protocol.specs.Keys.{deriveTests, deriveNumber, keysAfter}
 use Rattle.protocol.specs.Preauth.{Fold, admitted, statusAllows, FoldAnswer, notFolded, foldNumber, foldAnswer, fold}
 use Rattle.protocol.specs.SessionTable.{Session, recordOf, Adding, addTests, addNumber, tableAfterAdding, removeNumber, tableAfterRemoving}
@@ -40,6 +41,10 @@ pub record Answers (a : Answer) (before : List Test) (m : Bytes) (id : ℕ) (aft
   pub passes : (n : ℕ) → (a ≡ done n) ↔ Passes before m id after n
 
 -- ---- the lines of each call, in its order
+
+abbrev pub numbersOf : List Test → List ℕ
+numbersOf [] = []
+numbersOf ((refuse n when b) ∷ ts) = n ∷ numbersOf ts
 
 -- 40, 1, 2, 3, 11 to 16, 17
 abbrev pub SealUnderKeyAnswers : Protection → Bytes → ℕ → ℕ → Bytes → Type 0
@@ -85,6 +90,23 @@ module _ (P : Primitives) where
     pub sealing : (c : Connection) (id : ℕ) (m : Bytes) (t : List Session) → SealAnswers c id m t
     pub opening : (c : Connection) (m : Bytes) (t : List Session) → OpenAnswers c m t
 
+  -- the numbers that each call tests, in their order: "40 comes first and then the lowest number wins, except inside the walk"
+  pub record Orders : Type 0 where
+    pub derivation : (dialect : ℕ) (chain material place : Bytes) → numbersOf (deriveTests dialect chain material place) ≡ 40 ∷ 18 ∷ 19 ∷ []
+    pub folding : (v : Bytes) (f : Fold) → numbersOf (foldTests v f) ≡ 40 ∷ 23 ∷ []
+    pub sealing-under-key : (c : Protection) (key m : Bytes) → numbersOf (keyLengthTests key ++ sealTests c m) ≡ 40 ∷ 1 ∷ 2 ∷ 3 ∷ []
+    pub opening-under-key : (c : Protection) (key : Bytes) (id : ℕ) (m : Bytes) (p : Option Bytes)
+        → numbersOf (keyLengthTests key ++ (openTests c m ++ (idTests m id ++ tagTests m p))) ≡ 40 ∷ 1 ∷ 2 ∷ 3 ∷ 4 ∷ 5 ∷ 6 ∷ 9 ∷ 10 ∷ []
+    pub adding : (a : Adding) (t : List Session) → numbersOf (addTests a t) ≡ 40 ∷ 18 ∷ 19 ∷ 20 ∷ 21 ∷ 22 ∷ []
+    pub removing : (i : ℕ) (t : List Session) → numbersOf (removeTests i t) ≡ 6 ∷ []
+    pub sealing : (c : Connection) (m : Bytes) (s : Session) → numbersOf (sealTests (c .protection) m ++ recordTests c s) ≡ 1 ∷ 2 ∷ 3 ∷ 6 ∷ 7 ∷ 8 ∷ []
+    pub opening : (c : Connection) (m : Bytes) (s : Session) (p : Option Bytes)
+        → numbersOf (openTests (c .protection) m ++ (recordTests c s ++ tagTests m p)) ≡ 1 ∷ 2 ∷ 3 ∷ 4 ∷ 5 ∷ 6 ∷ 7 ∷ 8 ∷ 9 ∷ 10 ∷ []
+    -- the walk's, and the one after it
+    pub first-header : (m : Bytes) (id : ℕ) → numbersOf (firstHeaderTests m id) ≡ 11 ∷ 12 ∷ 13 ∷ 14 ∷ []
+    pub later-header : (m : Bytes) (id p d : ℕ) → numbersOf (nextHeaderTests m id p d) ≡ 15 ∷ 16 ∷ 12 ∷ 14 ∷ []
+    pub counter : (k : ℕ) → numbersOf (counterTests k) ≡ 17 ∷ []
+
   -- what a call leaves that answers another number than 0: each lent place as it was. Opening has no table to change.
   pub record Unchanged : Type 0 where
     pub keys : (dialect : ℕ) (chain material place : Bytes) → deriveNumber dialect chain material place ≢ 0 → keysAfter (P .kdf) dialect chain material place ≡ place
@@ -104,4 +126,5 @@ module _ (P : Primitives) where
 
   pub record Demand1 : Type 0 where
     pub numbers : Numbers
+    pub orders : Orders
     pub unchanged : Unchanged

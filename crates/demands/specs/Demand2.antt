@@ -23,7 +23,7 @@ use Rattle.protocol.specs.TransformHeader.{inner}
 use Rattle.protocol.specs.UnderKey.{Protection, cipherUsed, counterAfter, sealUnderKeyAnswer, sealUnderKeyBuffer, openUnderKeyAnswer, openUnderKeyBuffer}
 use Rattle.protocol.specs.Transform.{Connection, sealingKey, countUp, sealAnswer, bufferAfterSealing, tableAfterSealing, openAnswer, bufferAfterOpening}
 use Rattle.protocol.specs.Suite.{suite, sha512, kdf, ciphers, aes128}
-use Rattle.demands.specs.Opening.{OpensUnderKey, OpensWithTable}
+use Rattle.demands.specs.Opening.{Carries, OpensUnderKey, OpensWithTable}
 
 -- ---- keys
 
@@ -113,6 +113,8 @@ pub record Demand2 : Type 0 where
   -- a message opens exactly if every listed check holds
   pub opens-under-key : (c : Protection) (key : Bytes) (id : ℕ) (m : Bytes) (n : ℕ) → (openUnderKeyAnswer ciphers c key id m ≡ done n) ↔ OpensUnderKey c key id m n
   pub opens-with-table : (c : Connection) (m : Bytes) (t : List Session) (n : ℕ) → (openAnswer suite c m t ≡ done n) ↔ OpensWithTable c m t n
+  -- to its one specified plaintext
+  pub one-text : (cipher : ℕ) (key m text text′ : Bytes) → Carries cipher key m text → Carries cipher key m text′ → text ≡ text′
   -- "Opening leaves the header, replaces the rest by the plaintext"
   pub text-under-key : (c : Protection) (key : Bytes) (id : ℕ) (m : Bytes) (n : ℕ) (o : OpensUnderKey c key id m n)
       → openUnderKeyBuffer ciphers (openUnderKeyAnswer ciphers c key id m) c key m ≡ take 52 m ++ o .text
