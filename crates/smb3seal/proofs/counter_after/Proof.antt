@@ -14,13 +14,19 @@ refused-requires : tie.Need-refused-requires
 refused-requires c κs = search needs
 
 returns : tie.Need-returns
-returns c = let a = c .before .before .args in sym (when-refused (answerOf (a .o)) (a .lent + 1) (a .lent) (sym (c .before .refused .ensures) ∙ c .if1 .taken))
+returns c =
+    let a = c .before .before .args in
+    sym (when-refused (answerOf (a .o)) (a .lent + 1) (a .lent) (sym (c .before .refused .ensures) ∙ c .if1 .taken))
 
 add-result : tie.Need-add-result
-add-result c = let s = c .before .before in omega (arith, counter-below (answerOf (s .args .o)) (s .args .lent) (s .pre) (sym (c .before .refused .ensures) ∙ c .if1 .left), s .fits .lent)
+add-result c =
+    let s = c .before .before in
+    omega (arith, counter-below (answerOf (s .args .o)) (s .args .lent) (s .pre) (sym (c .before .refused .ensures) ∙ c .if1 .left), s .fits .lent)
 
 returns-2 : tie.Need-returns-2
-returns-2 c = let a = c .before .before .args in sym (when-done (answerOf (a .o)) (a .lent + 1) (a .lent) (sym (c .before .refused .ensures) ∙ c .if1 .left))
+returns-2 c =
+    let a = c .before .before .args in
+    sym (when-done (answerOf (a .o)) (a .lent + 1) (a .lent) (sym (c .before .refused .ensures) ∙ c .if1 .left))
 
 pub counter-after-spec : {M : Type 1} → statement M
 counter-after-spec = tie.close (tie.spec refused-requires returns add-result returns-2)

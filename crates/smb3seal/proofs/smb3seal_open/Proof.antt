@@ -19,7 +19,11 @@ same-length : tie.Need-same-length
 same-length c = search needs
 
 returns : tie.Need-returns
-returns c = let a = c .before .before .before .before .before .before .before .before .before .args in opens-out (protectionOf (a .dialect) (a .encryption) (a .cipher)) (a .key .now) (a .id) (a .message .now) _ _ (a .headers .now) _ _ (c .before .headers-after .ensures) (c .number .ensures) (c .before .before .before .before .before .open-under .ensures)
+returns c =
+    let a = c .before .before .before .before .before .before .before .before .before .args in
+    let open-under = c .before .before .before .before .before .open-under in
+    opens-out (protectionOf (a .dialect) (a .encryption) (a .cipher)) (a .key .now) (a .id) (a .message .now) _ _ (a .headers .now) _ _
+    (c .before .headers-after .ensures) (c .number .ensures) (open-under .ensures)
 
 pub smb3seal-open-spec : {M : Type 1} → statement M
 smb3seal-open-spec =

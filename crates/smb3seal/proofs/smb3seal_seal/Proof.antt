@@ -11,7 +11,11 @@ seal-under-requires : tie.Need-seal-under-requires
 seal-under-requires c κs = search needs
 
 counter-after-requires : tie.Need-counter-after-requires
-counter-after-requires c κs = let a = c .before .before .before .before .before .before .before .args in last-refused (protectionOf (a .dialect) (a .encryption) (a .cipher)) (a .key .now) (a .id) (a .counter .now) (a .message .now) _ _ (c .before .before .seal-under .ensures)
+counter-after-requires c κs =
+    let a = c .before .before .before .before .before .before .before .args in
+    let seal-under = c .before .before .seal-under in
+    last-refused (protectionOf (a .dialect) (a .encryption) (a .cipher)) (a .key .now) (a .id) (a .counter .now) (a .message .now) _ _
+    (seal-under .ensures)
 
 headers-after-requires : tie.Need-headers-after-requires
 headers-after-requires c κs = search needs
@@ -23,7 +27,12 @@ same-length : tie.Need-same-length
 same-length c = search needs
 
 returns : tie.Need-returns
-returns c = let a = c .before .before .before .before .before .before .before .before .before .before .before .args in seals-out (protectionOf (a .dialect) (a .encryption) (a .cipher)) (a .key .now) (a .id) (a .message .now) _ _ (a .headers .now) _ _ (c .before .headers-after .ensures) (c .number .ensures) (a .counter .now) _ (c .before .before .before .counter-after .ensures) (c .before .before .before .before .before .before .seal-under .ensures)
+returns c =
+    let a = c .before .before .before .before .before .before .before .before .before .before .before .args in
+    let counter-after = c .before .before .before .counter-after in
+    let seal-under = c .before .before .before .before .before .before .seal-under in
+    seals-out (protectionOf (a .dialect) (a .encryption) (a .cipher)) (a .key .now) (a .id) (a .message .now) _ _ (a .headers .now) _ _
+    (c .before .headers-after .ensures) (c .number .ensures) (a .counter .now) _ (counter-after .ensures) (seal-under .ensures)
 
 pub smb3seal-seal-spec : {M : Type 1} → statement M
 smb3seal-seal-spec =

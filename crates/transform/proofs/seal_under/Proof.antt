@@ -11,8 +11,12 @@ use Rattle.transform.proofs.seal_under.Statement.{statement}
 use Rattle.transform.proofs.seal_under.Tie as tie
 
 -- what the first tests have shown
-passed : (c : tie.Else1) → First (protectionOf (c .before .before .before .before .before .args .dialect) (c .before .before .before .before .before .args .encryption) (c .before .before .before .before .before .args .cipher)) (c .before .before .before .before .before .args .key .now) (c .before .before .before .before .before .args .message .now)
-passed c = let a = c .before .before .before .before .before .args in first-passed (protectionOf (a .dialect) (a .encryption) (a .cipher)) (a .key .now) (a .message .now) _ (c .before .first-number .ensures) (c .if1 .left)
+passed : (c : tie.Else1)
+    → let a = c .before .before .before .before .before .args in First (protectionOf (a .dialect) (a .encryption) (a .cipher)) (a .key .now) (a .message .now)
+passed c =
+    let a = c .before .before .before .before .before .args in
+    first-passed (protectionOf (a .dialect) (a .encryption) (a .cipher)) (a .key .now) (a .message .now) _ (c .before .first-number .ensures)
+    (c .if1 .left)
 
 first-number-requires : tie.Need-first-number-requires
 first-number-requires c κs = search needs
@@ -21,10 +25,16 @@ same-length : tie.Need-same-length
 same-length c = search needs
 
 returns : tie.Need-returns
-returns c = let a = c .before .before .before .before .before .args in first-refuses (protectionOf (a .dialect) (a .encryption) (a .cipher)) (a .key .now) (a .id) (a .counter) (a .message .now) _ (c .before .first-number .ensures) (c .if1 .taken)
+returns c =
+    let a = c .before .before .before .before .before .args in
+    first-refuses (protectionOf (a .dialect) (a .encryption) (a .cipher)) (a .key .now) (a .id) (a .counter) (a .message .now) _
+    (c .before .first-number .ensures) (c .if1 .taken)
 
 walk-inner-requires : tie.Need-walk-inner-requires
-walk-inner-requires c κs = let a = c .before .before .before .before .before .before .args in sized (protectionOf (a .dialect) (a .encryption) (a .cipher)) (a .key .now) (a .message .now) (passed (c .before))
+walk-inner-requires c κs =
+    let a = c .before .before .before .before .before .before .args in
+    let f = passed (c .before) in
+    sized (protectionOf (a .dialect) (a .encryption) (a .cipher)) (a .key .now) (a .message .now) f
 
 refused-requires : tie.Need-refused-requires
 refused-requires c κs = search needs
@@ -33,13 +43,24 @@ same-length-2 : tie.Need-same-length-2
 same-length-2 c = search needs
 
 returns-2 : tie.Need-returns-2
-returns-2 c = let a = c .before .before .before .before .before .before .before .before .before .args in walk-refuses (protectionOf (a .dialect) (a .encryption) (a .cipher)) (a .key .now) (a .id) (a .counter) (a .message .now) (passed (c .before .before .before .before)) _ (c .before .before .walk-inner .ensures) (sym (c .before .refused .ensures) ∙ c .if2 .taken)
+returns-2 c =
+    let a = c .before .before .before .before .before .before .before .before .before .args in
+    let f = passed (c .before .before .before .before) in
+    let walk-inner = c .before .before .walk-inner in
+    walk-refuses (protectionOf (a .dialect) (a .encryption) (a .cipher)) (a .key .now) (a .id) (a .counter) (a .message .now) f _
+    (walk-inner .ensures) (sym (c .before .refused .ensures) ∙ c .if2 .taken)
 
 same-length-3 : tie.Need-same-length-3
 same-length-3 c = search needs
 
 returns-3 : tie.Need-returns-3
-returns-3 c = let a = c .before .before .before .before .before .before .before .before .before .before .args in counter-refuses (protectionOf (a .dialect) (a .encryption) (a .cipher)) (a .key .now) (a .id) (a .counter) (a .message .now) (passed (c .before .before .before .before .before)) _ (c .before .before .before .walk-inner .ensures) (sym (c .before .before .refused .ensures) ∙ c .before .if2 .left) (c .if3 .taken)
+returns-3 c =
+    let a = c .before .before .before .before .before .before .before .before .before .before .args in
+    let f = passed (c .before .before .before .before .before) in
+    let walk-inner = c .before .before .before .walk-inner in
+    let refused = c .before .before .refused in
+    counter-refuses (protectionOf (a .dialect) (a .encryption) (a .cipher)) (a .key .now) (a .id) (a .counter) (a .message .now) f _
+    (walk-inner .ensures) (sym (refused .ensures) ∙ c .before .if2 .left) (c .if3 .taken)
 
 bytes-16-requires : tie.Need-bytes-16-requires
 bytes-16-requires c κs = let f = passed (c .before .before .before .before .before) .key-fits in omega arith
@@ -48,13 +69,27 @@ cipher-used-requires : tie.Need-cipher-used-requires
 cipher-used-requires c κs = passed (c .before .before .before .before .before .before) .on
 
 seal-message-requires : tie.Need-seal-message-requires
-seal-message-requires c κs = let a = c .before .before .before .before .before .before .before .before .before .before .before .before .before .args in sized (protectionOf (a .dialect) (a .encryption) (a .cipher)) (a .key .now) (a .message .now) (passed (c .before .before .before .before .before .before .before .before))
+seal-message-requires c κs =
+    let a = c .before .before .before .before .before .before .before .before .before .before .before .before .before .args in
+    let f = passed (c .before .before .before .before .before .before .before .before) in
+    sized (protectionOf (a .dialect) (a .encryption) (a .cipher)) (a .key .now) (a .message .now) f
 
 same-length-4 : tie.Need-same-length-4
 same-length-4 c = search needs
 
 returns-4 : tie.Need-returns-4
-returns-4 c = let a = c .before .before .before .before .before .before .before .before .before .before .before .before .before .before .before .before .args in seals (protectionOf (a .dialect) (a .encryption) (a .cipher)) (a .key .now) (a .id) (a .counter) (a .message .now) (passed (c .before .before .before .before .before .before .before .before .before .before .before)) _ (c .before .before .before .before .before .before .before .before .before .walk-inner .ensures) (sym (c .before .before .before .before .before .before .before .before .refused .ensures) ∙ c .before .before .before .before .before .before .before .if2 .left) (c .before .before .before .before .before .before .if3 .left) _ _ _ (c .before .before .before .before .cipher-used .ensures) (c .before .before .before .before .before .bytes-16 .ensures) (c .before .before .seal-message .ensures)
+returns-4 c =
+    let a = c .before .before .before .before .before .before .before .before .before .before .before .before .before .before .before .before .args in
+    let f = passed (c .before .before .before .before .before .before .before .before .before .before .before) in
+    let walk-inner = c .before .before .before .before .before .before .before .before .before .walk-inner in
+    let refused = c .before .before .before .before .before .before .before .before .refused in
+    let test2 = c .before .before .before .before .before .before .before .if2 in
+    let test3 = c .before .before .before .before .before .before .if3 in
+    let cipher-used = c .before .before .before .before .cipher-used in
+    let bytes-16 = c .before .before .before .before .before .bytes-16 in
+    let seal-message = c .before .before .seal-message in
+    seals (protectionOf (a .dialect) (a .encryption) (a .cipher)) (a .key .now) (a .id) (a .counter) (a .message .now) f _ (walk-inner .ensures)
+    (sym (refused .ensures) ∙ test2 .left) (test3 .left) _ _ _ (cipher-used .ensures) (bytes-16 .ensures) (seal-message .ensures)
 
 pub seal-under-spec : {M : Type 1} → statement M
 seal-under-spec =

@@ -36,13 +36,25 @@ same-length : tie.Need-same-length
 same-length c = search needs
 
 returns : tie.Need-returns
-returns c = λ aad. let a = c .before .before .before .before .before .before .before .before .before .before .args in gcm-applied (a .cipher) (a .key) (a .t3) aad _ _ (c .before .before .before .before .before .before .before .before .expand-key .ensures) (c .before .before .before .before .before .before .before .if1 .taken) (c .before .before .before .before .bytes-12 .ensures) _ _ (c .before .before .apply .ensures)
+returns c = λ aad.
+    let a = c .before .before .before .before .before .before .before .before .before .before .args in
+    let expand-key = c .before .before .before .before .before .before .before .before .expand-key in
+    let test1 = c .before .before .before .before .before .before .before .if1 in
+    let bytes-12 = c .before .before .before .before .bytes-12 in
+    let apply = c .before .before .apply in
+    gcm-applied (a .cipher) (a .key) (a .t3) aad _ _ (expand-key .ensures) (test1 .taken) (bytes-12 .ensures) _ _ (apply .ensures)
 
 same-length-2 : tie.Need-same-length-2
 same-length-2 c = search needs
 
 returns-2 : tie.Need-returns-2
-returns-2 c = λ aad. let a = c .before .before .before .before .before .before .before .before .before .before .args in ccm-applied (a .cipher) (a .key) (a .t3) aad _ _ (c .before .before .before .before .before .before .before .before .expand-key .ensures) (c .before .before .before .before .before .before .before .if1 .left) (c .before .before .before .before .bytes-11 .ensures) _ _ (c .before .before .apply2 .ensures)
+returns-2 c = λ aad.
+    let a = c .before .before .before .before .before .before .before .before .before .before .args in
+    let expand-key = c .before .before .before .before .before .before .before .before .expand-key in
+    let test1 = c .before .before .before .before .before .before .before .if1 in
+    let bytes-11 = c .before .before .before .before .bytes-11 in
+    let apply2 = c .before .before .apply2 in
+    ccm-applied (a .cipher) (a .key) (a .t3) aad _ _ (expand-key .ensures) (test1 .left) (bytes-11 .ensures) _ _ (apply2 .ensures)
 
 pub apply-spec : {M : Type 1} → statement M
 apply-spec =

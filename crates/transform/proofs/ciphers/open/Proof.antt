@@ -27,7 +27,13 @@ same-length : tie.Need-same-length
 same-length c = search needs
 
 returns : tie.Need-returns
-returns c = let a = c .before .before .before .before .before .before .before .before .before .before .before .args in gcm-opened (a .cipher) (a .key) (a .t3) (a .t4) _ _ (c .before .before .before .before .before .before .before .before .before .expand-key .ensures) (c .before .before .before .before .before .before .before .before .if1 .taken) (c .before .before .before .before .before .bytes-12 .ensures) _ _ _ _ (c .before .before .«open» .ensures)
+returns c =
+    let a = c .before .before .before .before .before .before .before .before .before .before .before .args in
+    let expand-key = c .before .before .before .before .before .before .before .before .before .expand-key in
+    let test1 = c .before .before .before .before .before .before .before .before .if1 in
+    let bytes-12 = c .before .before .before .before .before .bytes-12 in
+    let deciphered = c .before .before .«open» in
+    gcm-opened (a .cipher) (a .key) (a .t3) (a .t4) _ _ (expand-key .ensures) (test1 .taken) (bytes-12 .ensures) _ _ _ _ (deciphered .ensures)
 
 slice-aggregate-open-3 : tie.Need-slice-aggregate-open-3
 slice-aggregate-open-3 c = search needs
@@ -45,7 +51,13 @@ same-length-2 : tie.Need-same-length-2
 same-length-2 c = search needs
 
 returns-2 : tie.Need-returns-2
-returns-2 c = let a = c .before .before .before .before .before .before .before .before .before .before .args in ccm-opened (a .cipher) (a .key) (a .t3) (a .t4) _ _ (c .before .before .before .before .before .before .before .before .expand-key .ensures) (c .before .before .before .before .before .before .before .if1 .left) (c .before .before .before .before .bytes-11 .ensures) _ _ _ _ (c .before .before .open2 .ensures)
+returns-2 c =
+    let a = c .before .before .before .before .before .before .before .before .before .before .args in
+    let expand-key = c .before .before .before .before .before .before .before .before .expand-key in
+    let test1 = c .before .before .before .before .before .before .before .if1 in
+    let bytes-11 = c .before .before .before .before .bytes-11 in
+    let deciphered2 = c .before .before .open2 in
+    ccm-opened (a .cipher) (a .key) (a .t3) (a .t4) _ _ (expand-key .ensures) (test1 .left) (bytes-11 .ensures) _ _ _ _ (deciphered2 .ensures)
 
 pub open-spec : {M : Type 1} → statement M
 open-spec =

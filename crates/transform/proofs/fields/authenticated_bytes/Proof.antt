@@ -47,7 +47,15 @@ copy-requires-3 : tie.Need-copy-requires-3
 copy-requires-3 c κs = simp length-set (search needs)
 
 returns : tie.Need-returns
-returns c = let a = c .before .before .before .before .before .before .before .before .before .before .before .before .before .before .before .args in authenticated-put (a .counter) (a .size) (a .id) _ _ _ _ _ _ _ (c .before .before .before .before .before .before .before .before .before .before .before .before .before .before .u64-bytes .ensures) (c .before .before .before .before .before .before .before .before .before .before .before .before .before .u32-bytes .ensures) (c .before .before .before .before .before .before .before .before .before .before .before .before .u64-bytes2 .ensures) (c .before .before .before .before .before .before .before .before .before .copy .ensures) (c .before .before .before .before .before .copy2 .ensures) refl (c .before .copy3 .ensures)
+returns c =
+    let a = c .before .before .before .before .before .before .before .before .before .before .before .before .before .before .before .args in
+    let u64-bytes = c .before .before .before .before .before .before .before .before .before .before .before .before .before .before .u64-bytes in
+    let u32-bytes = c .before .before .before .before .before .before .before .before .before .before .before .before .before .u32-bytes in
+    let u64-bytes2 = c .before .before .before .before .before .before .before .before .before .before .before .before .u64-bytes2 in
+    let copy = c .before .before .before .before .before .before .before .before .before .copy in
+    let copy2 = c .before .before .before .before .before .copy2 in
+    authenticated-put (a .counter) (a .size) (a .id) _ _ _ _ _ _ _ (u64-bytes .ensures) (u32-bytes .ensures) (u64-bytes2 .ensures) (copy .ensures)
+    (copy2 .ensures) refl (c .before .copy3 .ensures)
 
 pub authenticated-bytes-spec : {M : Type 1} → statement M
 authenticated-bytes-spec =

@@ -18,7 +18,9 @@ copy-requires : tie.Need-copy-requires
 copy-requires c κs = search needs
 
 returns : tie.Need-returns
-returns c = nonce-put (c .before .before .before .before .before .args .counter) _ _ (c .before .before .before .before .u64-bytes .ensures) (c .before .copy .ensures)
+returns c =
+    let u64-bytes = c .before .before .before .before .u64-bytes in
+    nonce-put (c .before .before .before .before .before .args .counter) _ _ (u64-bytes .ensures) (c .before .copy .ensures)
 
 pub nonce-spec : {M : Type 1} → statement M
 nonce-spec =

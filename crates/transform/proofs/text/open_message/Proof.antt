@@ -33,7 +33,15 @@ same-length : tie.Need-same-length
 same-length c = search needs
 
 returns : tie.Need-returns
-returns c = let a = c .before .before .before .before .before .before .before .before .before .before .before .before .before .args in message-opened (a .cipher) (a .key) (a .id) (a .m .now) _ _ _ _ _ _ (c .before .before .before .before .before .before .before .before .before .before .bytes-16 .ensures) (c .before .before .before .before .before .before .before .before .bytes-162 .ensures) (c .before .before .before .before .before .before .bytes-32 .ensures) (c .before .before .before .before .u32-at .ensures) (c .before .before .open-text .ensures)
+returns c =
+    let a = c .before .before .before .before .before .before .before .before .before .before .before .before .before .args in
+    let bytes-16 = c .before .before .before .before .before .before .before .before .before .before .bytes-16 in
+    let bytes-162 = c .before .before .before .before .before .before .before .before .bytes-162 in
+    let bytes-32 = c .before .before .before .before .before .before .bytes-32 in
+    let u32-at = c .before .before .before .before .u32-at in
+    let open-text = c .before .before .open-text in
+    message-opened (a .cipher) (a .key) (a .id) (a .m .now) _ _ _ _ _ _ (bytes-16 .ensures) (bytes-162 .ensures) (bytes-32 .ensures) (u32-at .ensures)
+    (open-text .ensures)
 
 pub open-message-spec : {M : Type 1} → statement M
 open-message-spec =

@@ -14,7 +14,11 @@ same-length : tie.Need-same-length
 same-length c = search needs
 
 returns : tie.Need-returns
-returns c = let a = c .before .before .before .before .before .before .args in tag-wrong (a .cipher) (a .key) (a .nonce) (a .aad) (a .tag) (a .size) (a .id) (a .text .now) _ _ (c .before .before .before .«open» .ensures) (not-true _ (c .if1 .taken))
+returns c =
+    let a = c .before .before .before .before .before .before .args in
+    let deciphered = c .before .before .before .«open» in
+    tag-wrong (a .cipher) (a .key) (a .nonce) (a .aad) (a .tag) (a .size) (a .id) (a .text .now) _ _ (deciphered .ensures)
+    (not-true _ (c .if1 .taken))
 
 size-then-walk-requires : tie.Need-size-then-walk-requires
 size-then-walk-requires c κs = search needs
@@ -29,13 +33,28 @@ same-length-2 : tie.Need-same-length-2
 same-length-2 c = search needs
 
 returns-2 : tie.Need-returns-2
-returns-2 c = let a = c .before .before .before .before .before .before .before .before .before .before .before .before .before .before .args in restored (a .cipher) (a .key) (a .nonce) (a .aad) (a .tag) (a .size) (a .id) (a .text .now) _ _ (c .before .before .before .before .before .before .before .before .before .before .before .«open» .ensures) (not-false _ (c .before .before .before .before .before .before .before .before .if1 .left)) _ (c .before .before .before .before .before .before .size-then-walk .ensures) (sym (c .before .before .before .before .before .refused .ensures) ∙ c .before .before .before .before .if2 .taken) _ (c .before .before .apply .ensures (a .aad))
+returns-2 c =
+    let a = c .before .before .before .before .before .before .before .before .before .before .before .before .before .before .args in
+    let deciphered = c .before .before .before .before .before .before .before .before .before .before .before .«open» in
+    let test1 = c .before .before .before .before .before .before .before .before .if1 in
+    let size-then-walk = c .before .before .before .before .before .before .size-then-walk in
+    let refused = c .before .before .before .before .before .refused in
+    let test2 = c .before .before .before .before .if2 in
+    let apply = c .before .before .apply in
+    restored (a .cipher) (a .key) (a .nonce) (a .aad) (a .tag) (a .size) (a .id) (a .text .now) _ _ (deciphered .ensures) (not-false _ (test1 .left))
+    _ (size-then-walk .ensures) (sym (refused .ensures) ∙ test2 .taken) _ (apply .ensures (a .aad))
 
 same-length-3 : tie.Need-same-length-3
 same-length-3 c = search needs
 
 returns-3 : tie.Need-returns-3
-returns-3 c = let a = c .before .before .before .before .before .before .before .before .before .before .args in opened (a .cipher) (a .key) (a .nonce) (a .aad) (a .tag) (a .size) (a .id) (a .text .now) _ _ (c .before .before .before .before .before .before .before .«open» .ensures) (not-false _ (c .before .before .before .before .if1 .left)) _ (c .before .before .size-then-walk .ensures) (sym (c .before .refused .ensures) ∙ c .if2 .left)
+returns-3 c =
+    let a = c .before .before .before .before .before .before .before .before .before .before .args in
+    let deciphered = c .before .before .before .before .before .before .before .«open» in
+    let test1 = c .before .before .before .before .if1 in
+    let size-then-walk = c .before .before .size-then-walk in
+    opened (a .cipher) (a .key) (a .nonce) (a .aad) (a .tag) (a .size) (a .id) (a .text .now) _ _ (deciphered .ensures) (not-false _ (test1 .left)) _
+    (size-then-walk .ensures) (sym (c .before .refused .ensures) ∙ c .if2 .left)
 
 pub open-text-spec : {M : Type 1} → statement M
 open-text-spec =

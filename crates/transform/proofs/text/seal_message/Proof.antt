@@ -36,7 +36,15 @@ same-length : tie.Need-same-length
 same-length c = search needs
 
 returns : tie.Need-returns
-returns c = let s = c .before .before .before .before .before .before .before .before .before .before .before in let a = s .args in message-sealed (a .cipher) (a .key) (a .counter) (a .id) (a .m .now) (s .pre) _ _ _ _ _ (c .before .before .before .before .before .before .before .before .before .nonce .ensures) (c .before .before .before .before .before .before .before .before .authenticated-bytes .ensures) (c .before .before .before .before .before .before .seal .ensures) (c .before .before .write-header .ensures)
+returns c =
+    let s = c .before .before .before .before .before .before .before .before .before .before .before in
+    let a = s .args in
+    let nonce = c .before .before .before .before .before .before .before .before .before .nonce in
+    let authenticated-bytes = c .before .before .before .before .before .before .before .before .authenticated-bytes in
+    let seal = c .before .before .before .before .before .before .seal in
+    let write-header = c .before .before .write-header in
+    message-sealed (a .cipher) (a .key) (a .counter) (a .id) (a .m .now) (s .pre) _ _ _ _ _ (nonce .ensures) (authenticated-bytes .ensures)
+    (seal .ensures) (write-header .ensures)
 
 pub seal-message-spec : {M : Type 1} → statement M
 seal-message-spec =

@@ -13,7 +13,9 @@ walk-headers-requires : tie.Need-walk-headers-requires
 walk-headers-requires c κs = search needs
 
 returns-2 : tie.Need-returns-2
-returns-2 c = let a = c .before .before .before .args in c .walk-headers .ensures ∙ size-agrees (a .size) (a .id) _ (a .text .now) (c .before .if1 .left)
+returns-2 c =
+    let a = c .before .before .before .args in
+    c .walk-headers .ensures ∙ size-agrees (a .size) (a .id) _ (a .text .now) (c .before .if1 .left)
 
 pub size-then-walk-spec : {M : Type 1} → statement M
 size-then-walk-spec = tie.close (tie.spec returns walk-headers-requires returns-2)

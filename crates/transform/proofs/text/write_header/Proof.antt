@@ -27,7 +27,12 @@ same-length : tie.Need-same-length
 same-length c = search needs
 
 returns : tie.Need-returns
-returns c = let a = c .before .before .before .before .before .before .before .before .before .before .before .before .before .before .before .before .args in header-written (a .m .now) (a .t2) (a .t3) _ _ _ (search needs) (search needs) (c .before .before .before .before .before .before .before .before .before .before .before .before .copy .ensures) (c .before .before .before .before .before .before .before .copy2 .ensures) (c .before .before .copy3 .ensures)
+returns c =
+    let a = c .before .before .before .before .before .before .before .before .before .before .before .before .before .before .before .before .args in
+    let copy = c .before .before .before .before .before .before .before .before .before .before .before .before .copy in
+    let copy2 = c .before .before .before .before .before .before .before .copy2 in
+    let copy3 = c .before .before .copy3 in
+    header-written (a .m .now) (a .t2) (a .t3) _ _ _ (search needs) (search needs) (copy .ensures) (copy2 .ensures) (copy3 .ensures)
 
 pub write-header-spec : {M : Type 1} → statement M
 write-header-spec =
