@@ -2,10 +2,11 @@
 ghost use mathlib.Core.Path.{_≡_};
 ghost use mathlib.Core.Bool.{true};
 ghost use Rattle.protocol.specs.Answer.{isRefused};
+ghost use Rattle.protocol.specs.Preauth.{negotiateMessage, setupRequest};
 ghost use Rattle.protocol.specs.UnderKey.{lastCounter, counterAfter};
 ghost use Rattle.compound.specs.Outcomes.{answerOf};
 ghost use Rattle.transform.specs.UnderKey.{protectionOf};
-ghost use Rattle.smb3seal.specs.Exports.{Seals, Opens};
+ghost use Rattle.smb3seal.specs.Exports.{Derives, Folds, FoldsResponse, Seals, Opens};
 use compound::Outcome;
 
 // The counter handed back.
@@ -17,6 +18,38 @@ fn counter_after(o: Outcome, lent: u64) -> u64
         return lent;
     }
     lent + 1
+}
+
+// Writes the four keys of a session.
+#[no_mangle]
+pub extern "C" fn smb3seal_derive(
+    dialect: u16,
+    material: &[u8],
+    chain: &[u8],
+    keys: &mut [u8],
+) -> u32
+    ensures { λ r. ⌜ Derives dialect (now (material .entry)) (now (chain .entry)) (now (keys .entry)) (now (keys .exit)) r ⌝ }
+{
+    keys::derive(dialect, material, chain, keys)
+}
+
+// Folds a negotiate message or a session setup request.
+#[no_mangle]
+pub extern "C" fn smb3seal_fold(chain: &mut [u8], message: &[u8]) -> u32
+    ensures { λ r. ⌜ Folds negotiateMessage (now (chain .entry)) (now (chain .exit)) (now (message .entry)) r
+        × Folds setupRequest (now (chain .entry)) (now (chain .exit)) (now (message .entry)) r ⌝ }
+{
+    preauth::number(preauth::fold(chain, message))
+}
+
+// Folds a session setup response, if its status asks for that.
+#[no_mangle]
+pub extern "C" fn smb3seal_fold_response(chain: &mut [u8], message: &[u8], folded: &mut u32) -> u32
+    ensures { λ r. ⌜ FoldsResponse (now (chain .entry)) (now (chain .exit)) (now (message .entry)) (now (folded .entry)) (now (folded .exit)) r ⌝ }
+{
+    let out = preauth::fold_response(chain, message);
+    *folded = preauth::folded_after(out, *folded);
+    preauth::number(out)
 }
 
 // Seals the message in place.
