@@ -3,7 +3,29 @@
 mod block_cipher;
 mod hashes;
 mod modes;
+mod smb;
 mod text;
+
+// The operation of the protocol that a line names.
+fn run_smb(line: &[u8]) {
+    if text::is(line, b"fold ") {
+        smb::fold(line);
+    } else if text::is(line, b"fold-response ") {
+        smb::fold_response(line);
+    } else if text::is(line, b"derive ") {
+        smb::derive(line, 64);
+    } else if text::is(line, b"signing ") {
+        smb::derive(line, 16);
+    } else if text::is(line, b"open ") {
+        smb::open(line);
+    } else if text::is(line, b"seal ") {
+        smb::seal(line, true);
+    } else if text::is(line, b"seal-number ") {
+        smb::seal(line, false);
+    } else if text::is(line, b"seal-length ") {
+        smb::seal_length(line);
+    }
+}
 
 // The operation that a line names.
 fn run(line: &[u8]) {
@@ -27,6 +49,8 @@ fn run(line: &[u8]) {
         modes::ccm(line);
     } else if text::is(line, b"gcm ") {
         modes::gcm(line);
+    } else {
+        run_smb(line);
     }
 }
 

@@ -140,6 +140,19 @@ pub fn show_16(b: [u8; 16]) {
     show(&b);
 }
 
+pub fn space() {
+    io::write_all(STDOUT_FILENO, b" ");
+}
+
+pub fn show_decimal(n: u64) {
+    io::print_decimal(STDOUT_FILENO, n);
+}
+
+// All 16 digits of a number.
+pub fn show_64(n: u64) {
+    io::print_hex(STDOUT_FILENO, n, 16);
+}
+
 // A ciphertext and its tag.
 pub fn show_sealed(message: &[u8], tag: [u8; 16]) {
     show(message);
