@@ -4,21 +4,21 @@ use mathlib.Core.Path.{_≡_, refl, sym, ap, subst, _∙_}
 use mathlib.Core.Logic.{_≢_}
 use mathlib.Core.Bool.{Bool, true, false, cond, not, false≢true}
 use mathlib.Core.List.{List, [], _∷_, _++_}
-use mathlib.Core.Option.{Option, Option·getD}
+use mathlib.Core.Option.{Option·getD}
 use Prim.Native.Nat.{ℕ}
 use native.Mathlib.Omega.{arith}
 use borrow.Author.Tests.{ne-eqb, not-false}
 use lib.Dec.{eqb}
-use lib.ListN.{length, take}
+use lib.ListN.{length}
 use Rattle.protocol.specs.Bytes.{Bytes}
-use Rattle.protocol.specs.Answer.{Answer, refused, headersAfter, Test, refuse_when_, judge}
+use Rattle.protocol.specs.Answer.{Answer, headersAfter, Test, refuse_when_, judge}
 use Rattle.protocol.specs.CompoundWalk.{walk}
-use Rattle.protocol.specs.Keys.{deriveTests, deriveNumber, keysAfter, keysInOrder, derivedKeys, sessionKey}
-use Rattle.protocol.specs.Preauth.{Fold, admitted, statusAllows, FoldAnswer, foldedIn, notFolded, foldRefused, foldNumber, foldAnswer, valueAfter, fold}
-use Rattle.protocol.specs.SessionTable.{Session, freeRecord, isSession, recordOf, changeRecord, Adding, addTests, addNumber, newRecord, fillFree, tableAfterAdding, removeNumber, tableAfterRemoving}
+use Rattle.protocol.specs.Keys.{deriveTests, deriveNumber, keysInOrder, derivedKeys, sessionKey}
+use Rattle.protocol.specs.Preauth.{Fold, admitted, statusAllows, FoldAnswer, foldedIn, notFolded, foldRefused, foldNumber, foldAnswer, valueAfter}
+use Rattle.protocol.specs.SessionTable.{Session, freeRecord, isSession, recordOf, changeRecord, addTests, addNumber, newRecord, fillFree, removeNumber}
 use Rattle.protocol.specs.TransformHeader.{inner, sessionIdOf}
 use Rattle.protocol.specs.UnderKey.{Primitives, Protection, cipherUsed, keyLengthTests, sealTests, openTests, idTests, tagTests, counterTests, sealUnderKeyAnswer, sealUnderKeyBuffer, counterAfter, plaintextUnder, openUnderKeyAnswer, openUnderKeyBuffer}
-use Rattle.protocol.specs.Transform.{Connection, recordTests, plaintext, sealAnswer, sealBuffer, sealTable, openWith, openAnswer, openBuffer}
+use Rattle.protocol.specs.Transform.{Connection, recordTests, plaintext, sealAnswer, sealBuffer, sealTable, openWith, openBuffer}
 use Rattle.protocol.specs.Suite.{suite}
 use Rattle.demands.specs.Lines.{None, no-line, not-this, Numbered}
 use Rattle.demands.specs.Demand1.{SealUnderKeyAnswers, OpenUnderKeyAnswers, SealAnswers, OpenAnswers, foldTests, removeTests, Numbers, Orders, Unchanged, Demand1}

@@ -1,7 +1,6 @@
 -- Demand 2: the definitions unfolded, and the checks of an opening both ways.
 -- Assumes nothing.
 use mathlib.Core.Path.{_≡_, refl, ap, _∙_}
-use mathlib.Core.Logic.{_≢_}
 use mathlib.Core.Bool.{Bool, cond}
 use mathlib.Core.List.{List, [], _++_}
 use mathlib.Core.Option.{Option, some, Option·getD}
@@ -11,15 +10,14 @@ use lib.Dec.{lit≤}
 use lib.ListN.{take}
 use Rattle.protocol.specs.Bytes.{Bytes}
 use Rattle.protocol.specs.Answer.{Answer, done}
-use Rattle.protocol.specs.Keys.{Keys, keys311, keys300, keysInOrder, derivedKeys, derivationInput, sessionKey, deriveNumber}
+use Rattle.protocol.specs.Keys.{keys311, keys300, keysInOrder, derivedKeys, derivationInput, sessionKey, deriveNumber}
 use Rattle.protocol.specs.Preauth.{FoldAnswer, valueAfter}
 use Rattle.protocol.specs.SessionTable.{Session, recordOf, addNumber, newRecord, fillFree}
 use Rattle.protocol.specs.TransformHeader.{nonceOf, authenticated, sessionIdOf}
-use Rattle.protocol.specs.UnderKey.{Protection, cipherUsed, counterAfter, sealUnderKeyAnswer, sealUnderKeyBuffer, sealedUnder, keyLengthTests, openTests, idTests, tagTests, plaintextUnder, openUnderKeyAnswer, openUnderKeyBuffer}
-use Rattle.protocol.specs.Transform.{Connection, openingKey, recordTests, sealAnswer, sealBuffer, sealTable, plaintext, openAnswer, openBuffer, bufferAfterOpening}
+use Rattle.protocol.specs.UnderKey.{Protection, cipherUsed, counterAfter, sealUnderKeyAnswer, sealUnderKeyBuffer, sealedUnder, openUnderKeyAnswer, openUnderKeyBuffer}
+use Rattle.protocol.specs.Transform.{Connection, openingKey, sealAnswer, sealBuffer, sealTable, plaintext, openAnswer, openBuffer, bufferAfterOpening}
 use Rattle.protocol.specs.Suite.{suite, sha512, kdf, ciphers, cipherOf}
 use Rattle.protocol.proofs.SuiteLaws.{sha512-is, kdf-of-document}
-use Rattle.demands.specs.Demand1.{Passes}
 use Rattle.demands.specs.Opening.{Carries, OpensUnderKey, OpensWithTable}
 use Rattle.demands.specs.Demand2.{keyFrom, KeysOfPapers, CiphersOfPapers, SealsUnderKey, SealsWithTable, Demand2}
 use Rattle.demands.specs.Lines.{no-line}

@@ -4,7 +4,7 @@
 -- Assumes nothing.
 use mathlib.Core.Path.{_≡_}
 use mathlib.Core.Logic.{_≢_, _↔_}
-use mathlib.Core.Bool.{Bool, false, not}
+use mathlib.Core.Bool.{false, not}
 use mathlib.Core.List.{List, [], _∷_, _++_}
 use mathlib.Core.Option.{Option, Option·getD}
 use Prim.Native.Nat.{ℕ}
@@ -14,7 +14,7 @@ use Rattle.protocol.specs.Bytes.{Bytes}
 use Rattle.protocol.specs.Answer.{Answer, done, refused, headersAfter, Test, refuse_when_}
 use Rattle.protocol.specs.CompoundWalk.{firstHeaderTests, nextHeaderTests}
 use Rattle.protocol.specs.Keys.{deriveTests, deriveNumber, keysAfter}
-use Rattle.protocol.specs.Preauth.{Fold, admitted, statusAllows, FoldAnswer, notFolded, foldNumber, foldAnswer, fold}
+use Rattle.protocol.specs.Preauth.{Fold, admitted, statusAllows, notFolded, foldNumber, foldAnswer, fold}
 use Rattle.protocol.specs.SessionTable.{Session, recordOf, Adding, addTests, addNumber, tableAfterAdding, removeNumber, tableAfterRemoving}
 use Rattle.protocol.specs.TransformHeader.{inner, sessionIdOf}
 use Rattle.protocol.specs.UnderKey.{Primitives, Protection, cipherUsed, keyLengthTests, sealTests, openTests, idTests, tagTests, counterTests, plaintextUnder, sealUnderKeyAnswer, sealUnderKeyBuffer, counterAfter, openUnderKeyAnswer, openUnderKeyBuffer}
