@@ -47,9 +47,9 @@ pub extern "C" fn smb3seal_fold(chain: &mut [u8], message: &[u8]) -> u32
 pub extern "C" fn smb3seal_fold_response(chain: &mut [u8], message: &[u8], folded: &mut u32) -> u32
     ensures { λ r. ⌜ FoldsResponse (now (chain .entry)) (now (chain .exit)) (now (message .entry)) (now (folded .entry)) (now (folded .exit)) r ⌝ }
 {
-    let out = preauth::fold_response(chain, message);
-    *folded = preauth::folded_after(out, *folded);
-    preauth::number(out)
+    let folding = preauth::fold_response(chain, message);
+    *folded = preauth::folded_after(folding, *folded);
+    preauth::number(folding)
 }
 
 // Seals the message in place.
@@ -67,10 +67,10 @@ pub extern "C" fn smb3seal_seal(
     ensures { λ r. ⌜ Seals (protectionOf dialect encryption cipher) (now (key .entry)) id (now (counter .entry)) (now (counter .exit)) (now (message .entry)) (now (message .exit)) (now (headers .entry)) (now (headers .exit)) r ⌝ }
 {
     let k = *counter;
-    let out = transform::seal_under(dialect, encryption, cipher, key, k, id, message);
-    *counter = counter_after(out, k);
-    *headers = compound::headers_after(out, *headers);
-    compound::number(out)
+    let sealed = transform::seal_under(dialect, encryption, cipher, key, k, id, message);
+    *counter = counter_after(sealed, k);
+    *headers = compound::headers_after(sealed, *headers);
+    compound::number(sealed)
 }
 
 // Opens the message in place.
@@ -86,7 +86,7 @@ pub extern "C" fn smb3seal_open(
 ) -> u32
     ensures { λ r. ⌜ Opens (protectionOf dialect encryption cipher) (now (key .entry)) id (now (message .entry)) (now (message .exit)) (now (headers .entry)) (now (headers .exit)) r ⌝ }
 {
-    let out = transform::open_under(dialect, encryption, cipher, key, id, message);
-    *headers = compound::headers_after(out, *headers);
-    compound::number(out)
+    let opened = transform::open_under(dialect, encryption, cipher, key, id, message);
+    *headers = compound::headers_after(opened, *headers);
+    compound::number(opened)
 }
