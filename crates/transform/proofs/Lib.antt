@@ -5,3 +5,4 @@ pub mod CipherUsed
 pub mod Magic
 pub mod Opening
 pub mod Sealing
+pub mod FirstOf

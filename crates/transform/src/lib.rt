@@ -4,6 +4,9 @@ mod fields;
 mod tests;
 mod text;
 
+ghost use mathlib.Core.Path.{_≡_};
+ghost use Rattle.protocol.specs.Answer.{firstOf};
+ghost use Rattle.protocol.specs.UnderKey.{sealTests, openTests};
 ghost use Rattle.compound.specs.Outcomes.{answerOf};
 ghost use Rattle.transform.specs.UnderKey.{protectionOf, OpensUnder, SealsUnder};
 use compound::Outcome;
@@ -61,4 +64,22 @@ pub fn seal_under(
     let used = tests::cipher_used(dialect, encryption, cipher);
     text::seal_message(used, k, counter, id, message);
     out
+}
+
+// 1, 2, 3, or 0: of a seal with the session table, before the record is looked at.
+pub fn seal_number(dialect: u16, encryption: u32, cipher: u16, message: &[u8]) -> u32
+    ensures { λ r. ⌜ r ≡ firstOf (sealTests (protectionOf dialect encryption cipher) (now (message .entry))) ⌝ }
+{
+    tests::seal_number(dialect, encryption, cipher, message)
+}
+
+// 1 to 5, or 0: of an opening with the session table, before the record is looked at.
+pub fn open_number(dialect: u16, encryption: u32, cipher: u16, message: &[u8]) -> u32
+    ensures { λ r. ⌜ r ≡ firstOf (openTests (protectionOf dialect encryption cipher) (now (message .entry))) ⌝ }
+{
+    let first = tests::seal_number(dialect, encryption, cipher, message);
+    if first != 0 {
+        return first;
+    }
+    tests::transform_number(message, 0)
 }

@@ -5,7 +5,7 @@ ghost use mathlib.Core.List.{_++_};
 ghost use Prim.Native.Nat.{_+_, _≤_, _<_};
 ghost use lib.ListN.{length, take};
 ghost use Rattle.octets.specs.Same.{sameBytes};
-ghost use Rattle.protocol.specs.Answer.{firstOf};
+ghost use Rattle.protocol.specs.Answer.{firstOf, firstElse};
 ghost use Rattle.protocol.specs.TransformHeader.{inner, protocolId};
 ghost use Rattle.protocol.specs.UnderKey.{encrypts, cipherUsed, sealTests, firstTests, transformTests, idTests};
 ghost use Rattle.transform.specs.UnderKey.{protectionOf};
@@ -48,7 +48,7 @@ fn inner_length(m: &[u8]) -> usize
 }
 
 // 1, 2, 3.
-fn seal_number(dialect: u16, encryption: u32, cipher: u16, m: &[u8]) -> u32
+pub fn seal_number(dialect: u16, encryption: u32, cipher: u16, m: &[u8]) -> u32
     ensures { λ r. ⌜ r ≡ firstOf (sealTests (protectionOf dialect encryption cipher) (now (m .entry))) ⌝ }
 {
     let line3 = refuse(3, LONGEST < inner_length(m), 0);
@@ -72,12 +72,20 @@ fn is_transform(m: &[u8]) -> bool
     (m[0] == 0xFD) & ((m[1] == 0x53) & ((m[2] == 0x4D) & (m[3] == 0x42)))
 }
 
+// 4, 5: of every opening, then what the later lines say.
+pub fn transform_number(m: &[u8], later: u32) -> u32
+    requires { ⌜ 52 < length (now m) ⌝ }
+    ensures { λ r. ⌜ r ≡ firstElse (transformTests (now (m .entry))) later ⌝ }
+{
+    let line5 = refuse(5, !(octets::little_endian::u16_at(m, 42) == 1), later);
+    refuse(4, !is_transform(m), line5)
+}
+
 // 4, 5, 6: of every opening under one key.
 pub fn header_number(m: &[u8], id: u64) -> u32
     requires { ⌜ 52 < length (now m) ⌝ }
     ensures { λ r. ⌜ r ≡ firstOf (transformTests (now (m .entry)) ++ idTests (now (m .entry)) id) ⌝ }
 {
     let line6 = refuse(6, !(octets::little_endian::u64_at(m, 44) == id), 0);
-    let line5 = refuse(5, !(octets::little_endian::u16_at(m, 42) == 1), line6);
-    refuse(4, !is_transform(m), line5)
+    transform_number(m, line6)
 }

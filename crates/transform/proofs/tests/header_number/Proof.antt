@@ -10,29 +10,12 @@ u64-at-requires c κs = search needs
 refuse-requires : tie.Need-refuse-requires
 refuse-requires c κs = search needs
 
-u16-at-requires : tie.Need-u16-at-requires
-u16-at-requires c κs = search needs
-
-refuse-requires-2 : tie.Need-refuse-requires-2
-refuse-requires-2 c κs = search needs
-
-is-transform-requires : tie.Need-is-transform-requires
-is-transform-requires c κs = search needs
-
-refuse-requires-3 : tie.Need-refuse-requires-3
-refuse-requires-3 c κs = search needs
+transform-number-requires : tie.Need-transform-number-requires
+transform-number-requires c κs = search needs
 
 returns : tie.Need-returns
 returns c = cc
 
 pub header-number-spec : {M : Type 1} → statement M
 header-number-spec =
-    tie.close
-    (tie.spec
-    u64-at-requires
-    refuse-requires
-    u16-at-requires
-    refuse-requires-2
-    is-transform-requires
-    refuse-requires-3
-    returns)
+    tie.close (tie.spec u64-at-requires refuse-requires transform-number-requires returns)

@@ -1,0 +1,31 @@
+-- Right because the lines of the record come after those of the message.
+-- Assumes nothing.
+use mathlib.Core.Path.{refl}
+use Rattle.protocol.specs.UnderKey.{sealTests}
+use Rattle.protocol.specs.Transform.{recordTests}
+use Rattle.transform.specs.UnderKey.{protectionOf}
+use Rattle.session.specs.Records.{sessionOf, connectionOf}
+use Rattle.session.proofs.Numbers.{same-protection, first-refuses, first-passes}
+use borrow.Author.Needs.{needs}
+use Rattle.session.proofs.tests.seal_number.Statement.{statement}
+use Rattle.session.proofs.tests.seal_number.Tie as tie
+
+switch-requires : tie.Need-switch-requires
+switch-requires c κs = search needs
+
+seal-number-requires : tie.Need-seal-number-requires
+seal-number-requires c κs = search needs
+
+returns : tie.Need-returns
+returns c = let a = c .before .before .before .before .args in first-refuses (λ p. sealTests p (a .message .now)) (protectionOf (a .c .dialect) (c .before .before .switch .result) (a .c .cipher)) (connectionOf (a .c) .protection) (same-protection (a .c .dialect) (c .before .before .switch .result) (a .c .cipher) (a .c .encryption) (c .before .before .switch .ensures)) (recordTests (connectionOf (a .c)) (sessionOf (a .s))) _ (c .before .seal-number .ensures) (c .if1 .taken)
+
+record-number-requires : tie.Need-record-number-requires
+record-number-requires c κs = search needs
+
+returns-2 : tie.Need-returns-2
+returns-2 c = let a = c .before .before .before .before .before .args in first-passes (λ p. sealTests p (a .message .now)) (protectionOf (a .c .dialect) (c .before .before .before .switch .result) (a .c .cipher)) (connectionOf (a .c) .protection) (same-protection (a .c .dialect) (c .before .before .before .switch .result) (a .c .cipher) (a .c .encryption) (c .before .before .before .switch .ensures)) (recordTests (connectionOf (a .c)) (sessionOf (a .s))) _ (c .before .before .seal-number .ensures) refl (c .before .if1 .left) _ (c .record-number .ensures)
+
+pub seal-number-spec : {M : Type 1} → statement M
+seal-number-spec =
+    tie.close
+    (tie.spec switch-requires seal-number-requires returns record-number-requires returns-2)

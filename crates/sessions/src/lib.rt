@@ -1,0 +1,81 @@
+// The session table: a run of records that the caller lends (document 01, "Keys" and the numbers 1 to 22). Each function here is a
+// straight line of calls; what there is to decide about one record is in `session`, which takes it by value.
+use compound::Outcome;
+use session::Connection;
+use session::Session;
+ghost use mathlib.Core.Path.{_≡_};
+ghost use lib.ListN.{length, set, getD};
+ghost use Rattle.protocol.specs.SessionTable.{removeNumber, tableAfterRemoving};
+ghost use Rattle.compound.specs.Outcomes.{answerOf};
+ghost use Rattle.session.specs.Records.{free, isWanted, connectionOf};
+ghost use Rattle.sessions.specs.Reading.{tableOf};
+ghost use Rattle.sessions.specs.Place.{first};
+ghost use Rattle.sessions.specs.Calls.{SealsInTable, OpensInTable};
+
+// The place of the first record that is wanted, or the table's length where there is none.
+fn find(table: &[Session], used: bool, id: u64) -> usize
+    ensures { λ r. ⌜ r ≡ first (isWanted used id) (now (table .entry)) ⌝ }
+{
+    let mut i = 0;
+    while i < table.len() {
+        let hit = session::wanted(table[i], used, id);
+        if hit {
+            return i;
+        }
+        i += 1;
+    }
+    i
+}
+
+// The record at a place, or a free one past the end.
+fn at(table: &[Session], i: usize) -> Session
+    ensures { λ r. ⌜ r ≡ getD (now (table .entry)) i free ⌝ }
+{
+    if i < table.len() {
+        table[i]
+    } else {
+        session::vacant()
+    }
+}
+
+// A record to a place; past the end nothing changes.
+fn put_at(table: &mut [Session], i: usize, s: Session)
+    ensures { λ _. ⌜ now (table .exit) ≡ set (now (table .entry)) i s ⌝ }
+{
+    if i < table.len() {
+        table[i] = s;
+    }
+}
+
+// Takes the session of the id out, its keys with it: 6, or 0.
+pub fn remove(table: &mut [Session], id: u64) -> u32
+    ensures { λ r. ⌜ (r ≡ removeNumber id (tableOf (now (table .entry))))
+        × (tableOf (now (table .exit)) ≡ tableAfterRemoving id (tableOf (now (table .entry)))) ⌝ }
+{
+    let i = find(table, true, id);
+    let s = at(table, i);
+    let r = session::remove_record(s);
+    put_at(table, i, r.session);
+    r.number
+}
+
+// Seals the message in place for the session of the id: 1, 2, 3, 6, 7, 8, 11 to 16, 17. Refused, message and table are as they were lent.
+pub fn seal(table: &mut [Session], c: Connection, id: u64, message: &mut [u8]) -> Outcome
+    ensures { λ r. ⌜ SealsInTable (connectionOf c) id (now (message .entry)) (now (message .exit)) (tableOf (now (table .entry))) (tableOf (now (table .exit))) (answerOf r) ⌝ }
+{
+    let i = find(table, true, id);
+    let s = at(table, i);
+    let r = session::seal_record(s, c, id, message);
+    put_at(table, i, r.session);
+    r.answer
+}
+
+// Opens the message in place with the session that its header names: 1 to 16. Refused, the message is as it was lent.
+pub fn open(table: &[Session], c: Connection, message: &mut [u8]) -> Outcome
+    ensures { λ r. ⌜ OpensInTable (connectionOf c) (now (message .entry)) (now (message .exit)) (tableOf (now (table .entry))) (answerOf r) ⌝ }
+{
+    let id = session::session_id(message);
+    let i = find(table, true, id);
+    let s = at(table, i);
+    session::open_record(s, c, message)
+}
