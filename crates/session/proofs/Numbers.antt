@@ -1,11 +1,10 @@
 -- The numbers of the tests before the key is used, out of those of two stages.
 -- Assumes nothing.
-use mathlib.Core.Path.{_≡_, refl, sym, ap, _∙_}
+use mathlib.Core.Path.{_≡_, sym, ap, _∙_}
 use mathlib.Core.Bool.{Bool, true, not}
 use mathlib.Core.List.{List, _++_}
 use Prim.Native.Nat.{ℕ}
 use lib.Dec.{eqb}
-use Rattle.protocol.specs.Bytes.{Bytes}
 use Rattle.protocol.specs.Answer.{Test, firstOf}
 use Rattle.protocol.specs.UnderKey.{Protection}
 use Rattle.protocol.proofs.Judging.{positive, passes}

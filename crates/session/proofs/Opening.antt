@@ -1,22 +1,21 @@
 -- Opening with one record, a way out at a time: c is the connection, s the record.
 -- Assumes nothing.
 use mathlib.Core.Path.{_≡_, refl, sym, ap, subst, _∙_}
-use mathlib.Core.Bool.{Bool, true, false, cond, not}
-use mathlib.Core.List.{List, [], _∷_, _++_}
+use mathlib.Core.Bool.{Bool, cond, not}
+use mathlib.Core.List.{List, [], _++_}
 use mathlib.Core.Option.{Option·getD}
-use Prim.Native.Nat.{ℕ, _≤_, _<_}
+use Prim.Native.Nat.{ℕ}
 use borrow.Author.Tests.{eq-eqb}
-use lib.Dec.{eqb, leb}
 use lib.ListN.{length, take}
 use Rattle.protocol.specs.Bytes.{Bytes}
-use Rattle.protocol.specs.Answer.{Answer, refused, isRefused, whenDone, Test, refuse_when_, firstOf, judge}
+use Rattle.protocol.specs.Answer.{Answer, refused, whenDone, Test, firstOf, judge}
 use Rattle.protocol.specs.CompoundWalk.{walk}
-use Rattle.protocol.specs.TransformHeader.{inner, sessionIdOf}
+use Rattle.protocol.specs.TransformHeader.{sessionIdOf}
 use Rattle.protocol.specs.UnderKey.{Protection, openTests, tagTests, keyLengthTests, idTests, openUnderKeyAnswer}
 use Rattle.protocol.specs.SessionTable.{Session}
 use Rattle.protocol.specs.Transform.{Connection, recordTests, openingKey, plaintext, openWith}
 use Rattle.protocol.specs.Suite.{suite, ciphers}
-use Rattle.protocol.proofs.Judging.{NoneApplies, refuses, passes, judge-passed, judge-append}
+use Rattle.protocol.proofs.Judging.{NoneApplies, refuses, judge-passed, judge-append}
 use Rattle.transform.specs.UnderKey.{OpensUnder}
 use Rattle.session.specs.OneRecord.{OpensWith, namedId}
 

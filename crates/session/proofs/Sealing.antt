@@ -17,10 +17,9 @@ use Rattle.protocol.specs.SessionTable.{Session}
 use Rattle.protocol.specs.Transform.{Connection, recordTests, sealingKey, countUp, sealedWith}
 use Rattle.protocol.specs.Suite.{suite}
 use Rattle.protocol.proofs.AnswerLaws.{when-done, when-refused}
-use Rattle.protocol.proofs.Judging.{NoneApplies, refuses, passes, judge-passed}
+use Rattle.protocol.proofs.Judging.{NoneApplies, refuses, judge-passed}
 use Rattle.transform.specs.UnderKey.{SealsUnder}
 use Rattle.session.specs.OneRecord.{stepped, sealWith, SealsWith}
-
 
 module _ (c : Connection) (s : Session) (id : ℕ) (m : Bytes) where
   abbrev tests : List Test

@@ -17,14 +17,14 @@ use Rattle.protocol.specs.Transform.{Connection, countUp, sealAnswer, sealedWit
 use Rattle.protocol.specs.Suite.{suite}
 use Rattle.session.specs.declared.Session.{Session}
 use Rattle.session.specs.Records.{free, sessionOf}
-use Rattle.session.specs.OneRecord.{sealWith, SealsWith, OpensWith, namedId}
+use Rattle.session.specs.OneRecord.{stepped, sealWith, SealsWith, OpensWith, namedId}
 use Rattle.sessions.specs.Reading.{tableOf}
 use Rattle.sessions.specs.Place.{placeOf, recordOf}
 use Rattle.sessions.specs.Calls.{SealsInTable, OpensInTable}
 use Rattle.sessions.proofs.TableLink.{reads, changes}
 
 -- what lookup took
-taken : (ys : List Session) (id i : ℕ) (s : Session) → i ≡ placeOf id ys → s ≡ getD ys i free → sessionOf s ≡ protocol.recordOf id (tableOf ys)
+pub taken : (ys : List Session) (id i : ℕ) (s : Session) → i ≡ placeOf id ys → s ≡ getD ys i free → sessionOf s ≡ protocol.recordOf id (tableOf ys)
 taken ys id i s e e′ = ap sessionOf (e′ ∙ ap (λ (k : ℕ). getD ys k free) e) ∙ sym (reads id ys)
 
 -- a record that reads as the one that stood there
@@ -37,6 +37,10 @@ turned : (a : Answer) (f : protocol.Session → protocol.Session) (id : ℕ) (ys
     → tableOf (set ys (placeOf id ys) new) ≡ whenDone a (protocol.changeRecord f id (tableOf ys)) (tableOf ys)
 turned (done n) f id ys new e = sym (changes f id ys new (e ∙ ap f (reads id ys)))
 turned (refused n) f id ys new e = put-back ys (placeOf id ys) new (e ∙ reads id ys)
+
+-- the counter step
+pub stepped-says : (ys zs : List Session) (id i : ℕ) (s new : Session) → i ≡ placeOf id ys → s ≡ getD ys i free → sessionOf new ≡ stepped (sessionOf s) → zs ≡ set ys i new → tableOf zs ≡ protocol.changeRecord stepped id (tableOf ys)
+stepped-says ys zs id i s new e e′ en ez = ap tableOf (ez ∙ ap (λ (k : ℕ). set ys k new) e) ∙ sym (changes stepped id ys new (en ∙ ap (λ (x : Session). stepped (sessionOf x)) (e′ ∙ ap (λ (k : ℕ). getD ys k free) e)))
 
 -- sealing
 module _ (c : Connection) (id : ℕ) (m : Bytes) (t : List protocol.Session) where

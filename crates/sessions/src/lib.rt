@@ -5,9 +5,10 @@ use session::Connection;
 use session::Session;
 ghost use mathlib.Core.Path.{_≡_};
 ghost use lib.ListN.{length, set, getD};
-ghost use Rattle.protocol.specs.SessionTable.{removeNumber, tableAfterRemoving};
+ghost use Rattle.protocol.specs.SessionTable.{recordOf, changeRecord, removeNumber, tableAfterRemoving};
 ghost use Rattle.compound.specs.Outcomes.{answerOf};
-ghost use Rattle.session.specs.Records.{free, isWanted, connectionOf};
+ghost use Rattle.session.specs.Records.{free, isWanted, sessionOf, connectionOf};
+ghost use Rattle.session.specs.OneRecord.{stepped};
 ghost use Rattle.sessions.specs.Reading.{tableOf};
 ghost use Rattle.sessions.specs.Place.{first};
 ghost use Rattle.sessions.specs.Calls.{SealsInTable, OpensInTable};
@@ -45,6 +46,24 @@ fn put_at(table: &mut [Session], i: usize, s: Session)
     if i < table.len() {
         table[i] = s;
     }
+}
+
+// The first used record with the id, or a free one where there is none.
+pub fn lookup(table: &[Session], id: u64) -> Session
+    ensures { λ r. ⌜ sessionOf r ≡ recordOf id (tableOf (now (table .entry))) ⌝ }
+{
+    let i = find(table, true, id);
+    at(table, i)
+}
+
+// The counter step of the session of the id: up by one, and not past the last.
+pub fn step(table: &mut [Session], id: u64)
+    ensures { λ _. ⌜ tableOf (now (table .exit)) ≡ changeRecord stepped id (tableOf (now (table .entry))) ⌝ }
+{
+    let i = find(table, true, id);
+    let s = at(table, i);
+    let t = session::step_record(s);
+    put_at(table, i, t);
 }
 
 // Takes the session of the id out, its keys with it: 6, or 0.
