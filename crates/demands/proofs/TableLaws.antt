@@ -2,7 +2,7 @@
 -- Assumes nothing.
 use mathlib.Core.Path.{_≡_, refl, sym, ap, _∙_}
 use mathlib.Core.Logic.{_≢_, _⊎_, inl, inr}
-use mathlib.Core.Bool.{Bool, true, false, _&&_}
+use mathlib.Core.Bool.{Bool, true, false, cond, _&&_}
 use mathlib.Core.List.{List, [], _∷_, List·Memᴰ, List·Memᴰ·head, List·Memᴰ·tail, List·Memᴰ·cases-cons}
 use Prim.Native.Nat.{ℕ}
 use native.Mathlib.Decide.{ℕ-discrete}
@@ -11,10 +11,10 @@ use lib.Dec.{eqb}
 use Rattle.protocol.specs.Bytes.{Bytes}
 use Rattle.protocol.specs.Answer.{Answer, done, refused}
 use Rattle.protocol.specs.SessionTable.{Session, freeRecord, isSession, recordOf, changeRecord, hasFree, fillFree, Adding, addTests, addNumber, newRecord, tableAfterAdding}
-use Rattle.protocol.specs.UnderKey.{Primitives}
+use Rattle.protocol.specs.UnderKey.{Primitives, lastCounter}
 use Rattle.protocol.specs.Transform.{Connection, sealAnswer, countUp, sealTable, tableAfterSealing}
 use Rattle.protocol.proofs.Judging.{NoneApplies, passes}
-use Rattle.demands.specs.Demand3.{Call, adding, removing, sealing, opening, Made, tableAfter, made}
+use Rattle.demands.specs.Demand3.{Call, adding, removing, sealing, opening, stepping, counterStep, Made, tableAfter, made}
 
 true-not-false : {A : Type 0} → true ≡ false → A
 true-not-false e = absurd (mathlib.Core.Bool.true≢false e)
@@ -113,6 +113,13 @@ held s =
 unfoldable pub Keeps : ℕ → Session → List Session → Type 0
 Keeps i s t = held (recordOf i t) ≡ held s
 
+held-stepped : (x : Session) → held (counterStep x) ≡ held x
+held-stepped x = go (eqb (x .counter) lastCounter)
+  where
+    go : (b : Bool) → held (cond b x (countUp x)) ≡ held x
+    go true = refl
+    go false = refl
+
 abbrev isHeld : ℕ → Held → Bool
 isHeld i h = h .used && eqb (h .id) i
 
@@ -153,6 +160,7 @@ module _ (P : Primitives) (i : ℕ) (s : Session) (is : isSession i s ≡ true) 
   keeps-one (removing j) t h k = ap held (change-other i j (λ q. h (ap removing q)) (λ x. freeRecord) (λ x e. refl) t) ∙ k
   keeps-one (sealing c j m) t h k = keeps-sealing c j m t k
   keeps-one (opening c m) t h k = k
+  keeps-one (stepping j) t h k = keeps-change counterStep held-stepped j t k
 
   -- every call of a list that does not remove the session gets a table with its record
   pub keeps-all : (cs : List Call) (t : List Session) → ¬ List·Memᴰ (removing i) cs → Keeps i s t → (x : Made) → List·Memᴰ x (made P t cs) → Keeps i s (x .table)
