@@ -1,3 +1,4 @@
 pub mod Numbers
 pub mod Sealing
 pub mod Opening
+pub mod AddingLaws

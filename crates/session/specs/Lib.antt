@@ -1,2 +1,3 @@
 pub mod Records
 pub mod OneRecord
+pub mod Adds

@@ -1,4 +1,5 @@
 // One session record by value, and what each call with the session table does with it (document 01, "Keys" and the numbers 1 to 22).
+mod new;
 mod tests;
 
 use compound::Outcome;
@@ -7,6 +8,7 @@ ghost use Rattle.protocol.specs.Transform.{sealingKey, openingKey};
 ghost use Rattle.compound.specs.Outcomes.{answerOf};
 ghost use Rattle.session.specs.Records.{free, isWanted, sessionOf, roleOf, connectionOf};
 ghost use Rattle.session.specs.OneRecord.{stepped, SealsWith, OpensWith, namedId, removedOf};
+ghost use Rattle.session.specs.Adds.{addingOf, AddsWith};
 
 const LAST_COUNTER: u64 = 18446744073709551615;
 
@@ -39,6 +41,14 @@ pub struct Connection {
 pub struct Sealed {
     pub answer: Outcome,
     pub session: Session,
+}
+
+// What adding takes beside the key material and the chain value.
+pub struct Adding {
+    pub dialect: u16,
+    pub id: u64,
+    pub guest: bool,
+    pub anonymous: bool,
 }
 
 // What adding and removing give: document 01's number, and the record after it.
@@ -163,6 +173,34 @@ pub fn open_record(s: Session, c: Connection, message: &mut [u8]) -> Outcome
     let key = opening_key(s, role);
     let on = tests::switch(c.encryption);
     transform::open_under(c.dialect, on, c.cipher, &key, id, message)
+}
+
+// Adds: 40, 18 to 22. `there` is the record of the id, `old` the one at the first free place, which `room` says there is.
+pub fn add_record(
+    a: Adding,
+    there: Session,
+    old: Session,
+    room: bool,
+    material: &[u8],
+    chain: &[u8],
+) -> Changed
+    ensures { λ r. ⌜ AddsWith (addingOf a (now (chain .entry)) (now (material .entry))) (there .used) room (sessionOf old) (r .number) (sessionOf (r .session)) ⌝ }
+{
+    let taken = there.used;
+    let mut place = [0u8; 64];
+    let first = keys::derive(a.dialect, material, chain, &mut place);
+    let n = new::number(first, a.id, taken, room);
+    if n != 0 {
+        return Changed {
+            number: n,
+            session: old,
+        };
+    }
+    let s = new::fresh(a, place);
+    Changed {
+        number: n,
+        session: s,
+    }
 }
 
 // Takes the session out, its keys with it: 6.

@@ -11,7 +11,7 @@ ghost use Rattle.protocol.specs.Transform.{recordTests};
 ghost use Rattle.session.specs.Records.{sessionOf, connectionOf};
 
 // n where the line applies, else what the later lines say.
-fn refuse(n: u32, when: bool, later: u32) -> u32
+pub fn refuse(n: u32, when: bool, later: u32) -> u32
     ensures { λ r. ⌜ r ≡ cond when n later ⌝ }
 {
     if when { n } else { later }

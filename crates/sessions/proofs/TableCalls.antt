@@ -6,22 +6,25 @@ use mathlib.Core.List.{List, [], _∷_, _++_}
 use mathlib.Core.Option.{Option·getD}
 use Prim.Native.Nat.{ℕ, zero, suc}
 use native.Mathlib.Omega.{arith}
-use lib.Dec.{leb}
+use lib.Dec.{eqb, leb, ltb}
 use lib.ListN.{length, getD, set, take}
 use Rattle.protocol.specs.Bytes.{Bytes}
-use Rattle.protocol.specs.Answer.{Answer, done, refused, whenDone}
+use Rattle.protocol.specs.Answer.{Answer, done, refused, whenDone, firstOf}
 use Rattle.protocol.specs.TransformHeader.{inner, sessionIdOf}
 use Rattle.protocol.specs.UnderKey.{encrypts}
 use Rattle.protocol.specs.SessionTable as protocol
 use Rattle.protocol.specs.Transform.{Connection, countUp, sealAnswer, sealedWith, openWith, plaintext}
-use Rattle.protocol.specs.Suite.{suite}
+use Rattle.protocol.specs.Suite.{suite, kdf}
 use Rattle.session.specs.declared.Session.{Session}
+use Rattle.session.specs.declared.Adding.{Adding}
+use Rattle.session.specs.declared.Changed.{Changed}
 use Rattle.session.specs.Records.{free, sessionOf}
+use Rattle.session.specs.Adds.{addingOf, addTestsWith, AddsWith}
 use Rattle.session.specs.OneRecord.{stepped, sealWith, SealsWith, OpensWith, namedId}
 use Rattle.sessions.specs.Reading.{tableOf}
-use Rattle.sessions.specs.Place.{placeOf, recordOf}
-use Rattle.sessions.specs.Calls.{SealsInTable, OpensInTable}
-use Rattle.sessions.proofs.TableLink.{reads, changes}
+use Rattle.sessions.specs.Place.{placeOf, freePlace}
+use Rattle.sessions.specs.Calls.{AddsInTable, SealsInTable, OpensInTable}
+use Rattle.sessions.proofs.TableLink.{reads, changes, fills, has-free}
 
 -- what lookup took
 pub taken : (ys : List Session) (id i : ℕ) (s : Session) → i ≡ placeOf id ys → s ≡ getD ys i free → sessionOf s ≡ protocol.recordOf id (tableOf ys)
@@ -41,6 +44,31 @@ turned (refused n) f id ys new e = put-back ys (placeOf id ys) new (e ∙ reads 
 -- the counter step
 pub stepped-says : (ys zs : List Session) (id i : ℕ) (s new : Session) → i ≡ placeOf id ys → s ≡ getD ys i free → sessionOf new ≡ stepped (sessionOf s) → zs ≡ set ys i new → tableOf zs ≡ protocol.changeRecord stepped id (tableOf ys)
 stepped-says ys zs id i s new e e′ en ez = ap tableOf (ez ∙ ap (λ (k : ℕ). set ys k new) e) ∙ sym (changes stepped id ys new (en ∙ ap (λ (x : Session). stepped (sessionOf x)) (e′ ∙ ap (λ (k : ℕ). getD ys k free) e)))
+
+-- adding
+filled : (b : Bool) (made : protocol.Session) (ys : List Session) (new : Session) → sessionOf new ≡ cond b made (sessionOf (getD ys (freePlace ys) free)) → tableOf (set ys (freePlace ys) new) ≡ cond b (protocol.fillFree made (tableOf ys)) (tableOf ys)
+filled true made ys new e = sym (fills new ys) ∙ ap (λ (s : protocol.Session). protocol.fillFree s (tableOf ys)) e
+filled false made ys new e = put-back ys (freePlace ys) new e
+
+pub added-says : (ys zs : List Session) (x : Adding) (material chain : Bytes) (i f : ℕ) (there old : Session) (t : Changed) → i ≡ placeOf (x .id) ys → there ≡ getD ys i free → f ≡ freePlace ys → old ≡ getD ys f free
+    → AddsWith (addingOf x chain material) (there .used) (ltb f (length ys)) (sessionOf old) (t .number) (sessionOf (t .session)) → zs ≡ set ys f (t .session)
+    → AddsInTable (addingOf x chain material) (tableOf ys) (tableOf zs) (t .number)
+unfolding protocol.addNumber
+added-says ys zs x material chain i f there old t e e′ ef eo o ez =
+    let a = addingOf x chain material in
+    let used : there .used ≡ protocol.recordOf (x .id) (tableOf ys) .used = ap (λ (s : protocol.Session). s .used) (taken ys (x .id) i there e e′) in
+    let room : ltb f (length ys) ≡ protocol.hasFree (tableOf ys) = ap (λ (k : ℕ). ltb k (length ys)) ef ∙ sym (has-free ys) in
+    let same : firstOf (addTestsWith a (there .used) (ltb f (length ys))) ≡ protocol.addNumber a (tableOf ys) = (λ j. firstOf (addTestsWith a (used j) (room j))) in
+    record {
+      number = o .number ∙ same;
+      table =
+          ap tableOf (ez ∙ ap (λ (k : ℕ). set ys k (t .session)) ef)
+          ∙ filled (eqb (protocol.addNumber a (tableOf ys)) 0) (protocol.newRecord kdf a) ys (t .session)
+          (o .session ∙ (λ j. cond (eqb (same j) 0) (protocol.newRecord kdf a) (sessionOf (at-free j))));
+    }
+  where
+    at-free : old ≡ getD ys (freePlace ys) free
+    at-free = eo ∙ ap (λ (k : ℕ). getD ys k free) ef
 
 -- sealing
 module _ (c : Connection) (id : ℕ) (m : Bytes) (t : List protocol.Session) where

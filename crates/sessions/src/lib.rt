@@ -1,6 +1,7 @@
 // The session table: a run of records that the caller lends (document 01, "Keys" and the numbers 1 to 22). Each function here is a
 // straight line of calls; what there is to decide about one record is in `session`, which takes it by value.
 use compound::Outcome;
+use session::Adding;
 use session::Connection;
 use session::Session;
 ghost use mathlib.Core.Path.{_≡_};
@@ -9,9 +10,10 @@ ghost use Rattle.protocol.specs.SessionTable.{recordOf, changeRecord, removeNum
 ghost use Rattle.compound.specs.Outcomes.{answerOf};
 ghost use Rattle.session.specs.Records.{free, isWanted, sessionOf, connectionOf};
 ghost use Rattle.session.specs.OneRecord.{stepped};
+ghost use Rattle.session.specs.Adds.{addingOf};
 ghost use Rattle.sessions.specs.Reading.{tableOf};
 ghost use Rattle.sessions.specs.Place.{first};
-ghost use Rattle.sessions.specs.Calls.{SealsInTable, OpensInTable};
+ghost use Rattle.sessions.specs.Calls.{AddsInTable, SealsInTable, OpensInTable};
 
 // The place of the first record that is wanted, or the table's length where there is none.
 fn find(table: &[Session], used: bool, id: u64) -> usize
@@ -64,6 +66,20 @@ pub fn step(table: &mut [Session], id: u64)
     let s = at(table, i);
     let t = session::step_record(s);
     put_at(table, i, t);
+}
+
+// Adds a session of a new id in the first free record: 40, 18 to 22, or 0. Refused, the table is as it was lent.
+pub fn add(table: &mut [Session], a: Adding, material: &[u8], chain: &[u8]) -> u32
+    ensures { λ r. ⌜ AddsInTable (addingOf a (now (chain .entry)) (now (material .entry))) (tableOf (now (table .entry))) (tableOf (now (table .exit))) r ⌝ }
+{
+    let i = find(table, true, a.id);
+    let there = at(table, i);
+    let f = find(table, false, 0);
+    let old = at(table, f);
+    let room = f < table.len();
+    let r = session::add_record(a, there, old, room, material, chain);
+    put_at(table, f, r.session);
+    r.number
 }
 
 // Takes the session of the id out, its keys with it: 6, or 0.
