@@ -1,6 +1,6 @@
 -- Right because the four bytes are compared one by one (four-same).
 -- Assumes nothing.
-use Rattle.transform.proofs.Magic.{four-same}
+use Rattle.transform.proofs.FirstBytes.{four-same}
 use borrow.Author.Needs.{needs}
 use Rattle.transform.proofs.tests.is_transform.Statement.{statement}
 use Rattle.transform.proofs.tests.is_transform.Tie as tie
