@@ -58,7 +58,8 @@ static void derive(const struct session *s, const uint8_t chain[SMB3SEAL_CHAIN_B
     chapter("2. The keys: from the session key and that value");
     printf("   session key         ");
     hex(d->material.at, d->material.len);
-    uint32_t number = smb3seal_derive(s->dialect, d->material.at, d->material.len, chain, SMB3SEAL_CHAIN_BYTES, keys, SMB3SEAL_KEYS_BYTES);
+    uint32_t number =
+        smb3seal_derive(s->dialect, d->material.at, d->material.len, chain, SMB3SEAL_CHAIN_BYTES, keys, SMB3SEAL_KEYS_BYTES);
     printf("\n   smb3seal_derive: %s\n", smb3seal_text(number));
     for (size_t i = 0; i < 4; i++) {
         size_t at = SMB3SEAL_KEY_BYTES * i;
@@ -97,7 +98,8 @@ static void exchange(const struct session *s, const uint8_t *keys, uint8_t *mess
         int from_server = strstr(t->what, "response") != NULL;
         const uint8_t *key = keys + (from_server ? SMB3SEAL_SERVER_TO_CLIENT_KEY : SMB3SEAL_CLIENT_TO_SERVER_KEY);
         uint64_t headers = 0;
-        printf("%s   %s, %zu bytes, sealed %s\n", t == transforms + s->transform ? "" : "\n", t->what, t->message.len, t->sealed_by_counter ? "from a counter" : "under a random nonce");
+        const char *how = t->sealed_by_counter ? "from a counter" : "under a random nonce";
+        printf("%s   %s, %zu bytes, sealed %s\n", t == transforms + s->transform ? "" : "\n", t->what, t->message.len, how);
         /* the server began where it liked; the second response has the counter that sealing the first one handed back */
         if (t->sealed_by_counter && counter == 0) counter = t->counter;
         if (t->sealed_by_counter) seal_again(s, key, &counter, t);

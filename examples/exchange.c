@@ -38,8 +38,8 @@ static struct end new_end(const char *name, int socket, int server, const uint8_
     uint8_t chain[SMB3SEAL_CHAIN_BYTES] = {0}, keys[SMB3SEAL_KEYS_BYTES];
     struct end e = {.name = name, .socket = socket};
     must(smb3seal_fold(chain, sizeof chain, setup, setup_len) == SMB3SEAL_DONE, "folding");
-    must(smb3seal_derive(SMB3SEAL_DIALECT_311, session_key, sizeof session_key, chain, sizeof chain, keys, sizeof keys) == SMB3SEAL_DONE,
-         "deriving");
+    uint32_t answer = smb3seal_derive(SMB3SEAL_DIALECT_311, session_key, sizeof session_key, chain, sizeof chain, keys, sizeof keys);
+    must(answer == SMB3SEAL_DONE, "deriving");
     const uint8_t *to_server = keys + SMB3SEAL_CLIENT_TO_SERVER_KEY, *to_client = keys + SMB3SEAL_SERVER_TO_CLIENT_KEY;
     memcpy(e.seal_key, server ? to_client : to_server, SMB3SEAL_KEY_BYTES);
     memcpy(e.open_key, server ? to_server : to_client, SMB3SEAL_KEY_BYTES);
@@ -118,7 +118,7 @@ static void answer_requests(struct end *server, int count)
         uint8_t id = receive(server, message, sizeof message);
         if (id == 0 || id > REQUESTS) continue;
         if (server->seen[id]++ > 0) {
-            printf("%s: MessageId %u has come before: a replay opens again, and to refuse it is the caller's part\n", server->name, id);
+            printf("%s: MessageId %u has come before: a replay opens again, to refuse it is the caller's part\n", server->name, id);
             continue;
         }
         seal_echo(server, id, 1, message);

@@ -5,7 +5,6 @@
 PREFIX ?= /usr/local
 LIBDIR ?= $(PREFIX)/lib
 INCLUDEDIR ?= $(PREFIX)/include
-VERSION = $(shell sed -n 's/^\#define SMB3SEAL_VERSION "\(.*\)"/\1/p' include/smb3seal.h)
 
 HEADERS = smb3seal.h smb3seal_text.h
 INSTALLED = $(HEADERS:%=$(INCLUDEDIR)/%) $(LIBDIR)/libsmb3seal.a $(LIBDIR)/pkgconfig/smb3seal.pc
@@ -16,7 +15,8 @@ install:
 	install -d $(DESTDIR)$(INCLUDEDIR) $(DESTDIR)$(LIBDIR)/pkgconfig
 	install -m 644 $(HEADERS:%=dist/%) $(DESTDIR)$(INCLUDEDIR)
 	install -m 644 dist/libsmb3seal.a $(DESTDIR)$(LIBDIR)
-	sed -e 's|@PREFIX@|$(PREFIX)|' -e 's|@LIBDIR@|$(LIBDIR)|' -e 's|@INCLUDEDIR@|$(INCLUDEDIR)|' -e 's|@VERSION@|$(VERSION)|' \
+	version=$$(sed -n 's/^#define SMB3SEAL_VERSION "\(.*\)"/\1/p' dist/smb3seal.h) && \
+	sed -e 's|@PREFIX@|$(PREFIX)|' -e 's|@LIBDIR@|$(LIBDIR)|' -e 's|@INCLUDEDIR@|$(INCLUDEDIR)|' -e "s|@VERSION@|$$version|" \
 		packaging/smb3seal.pc.in > $(DESTDIR)$(LIBDIR)/pkgconfig/smb3seal.pc
 	chmod 644 $(DESTDIR)$(LIBDIR)/pkgconfig/smb3seal.pc
 
