@@ -8,7 +8,7 @@
 //! as it was.
 //!
 //! ```
-//! use smb3seal::{open, seal, Chain, Cipher, Dialect, Keys, Protection};
+//! use smb3seal::{open, Chain, Cipher, Dialect, Keys, Protection, Sealer};
 //!
 //! # fn main() -> Result<(), smb3seal::Refusal> {
 //! let mut chain = Chain::fresh();
@@ -23,9 +23,9 @@
 //! message[116] = 4;
 //!
 //! let connection = Protection::on(Dialect::SMB_3_1_1, Cipher::AES_128_GCM);
-//! let mut counter = 0;
-//! assert_eq!(seal(&connection, &keys.client_to_server, 7, &mut counter, &mut message)?, 1);
-//! assert_eq!((&message[..4], counter), (&b"\xFDSMB"[..], 1));
+//! let mut client = Sealer::new(connection, keys.client_to_server, 7);
+//! assert_eq!(client.seal(&mut message)?, 1); // one inner header
+//! assert_eq!(&message[..4], b"\xFDSMB");
 //!
 //! assert_eq!(open(&connection, &keys.client_to_server, 7, &mut message)?, 1);
 //! assert_eq!(message[64], 13);
@@ -36,8 +36,12 @@
 
 mod ffi;
 mod refusal;
+mod sealer;
 
 pub use refusal::Refusal;
+pub use sealer::Sealer;
+
+use std::fmt;
 
 /// Bytes of the transform header, before every sealed message.
 pub const HEADER_BYTES: usize = 52;
@@ -183,11 +187,17 @@ impl Keys {
     }
 }
 
+impl fmt::Debug for Keys {
+    fn fmt(&self, f: &mut fmt::Formatter<'_>) -> fmt::Result {
+        f.debug_struct("Keys").finish_non_exhaustive()
+    }
+}
+
 /// Seals in place: `message` is [`HEADER_BYTES`] of room and behind them the inner message, and becomes the sealed message.
 /// Returns the number of inner headers.
 ///
 /// `counter` is the send counter of this key: it becomes the nonce, and is then one more. Start it at 0 for a new key, and never
-/// seal twice under one key with one value.
+/// seal twice under one key with one value; a [`Sealer`] keeps it for you.
 ///
 /// Refuses with the numbers 1, 2, 3 and 11 to 17.
 pub fn seal(

@@ -1,6 +1,7 @@
 //! What is refused, with which number, and that a refusal changes nothing.
 use smb3seal::{
-    open, seal, Chain, Cipher, Dialect, Keys, Protection, Refusal, HEADER_BYTES, LONGEST_MESSAGE,
+    open, seal, Chain, Cipher, Dialect, Keys, Protection, Refusal, Sealer, HEADER_BYTES,
+    LONGEST_MESSAGE,
 };
 
 const KEY: [u8; 16] = [7; 16];
@@ -108,6 +109,27 @@ fn folds_and_keys() {
         refused(Dialect::SMB_3_0_2, &[]),
         Some(Refusal::NO_KEY_MATERIAL)
     );
+}
+
+/// A refused message takes no counter value; the next two take 0 and 1.
+#[test]
+fn sealer_keeps_the_counter() {
+    let mut sealer = Sealer::new(GCM, KEY, 5);
+    assert_eq!(sealer.seal(&mut plain(63)), Err(Refusal::INNER_TOO_SHORT));
+    for nonce in 0..2 {
+        let (mut message, mut counter) = (plain(64), nonce);
+        let mut expected = message.clone();
+        assert_eq!(sealer.seal(&mut message), Ok(1));
+        assert_eq!(seal(&GCM, &KEY, 5, &mut counter, &mut expected), Ok(1));
+        assert_eq!(message, expected);
+        assert_eq!(message[20..28], nonce.to_le_bytes());
+    }
+}
+
+#[test]
+fn keys_are_not_printed() {
+    let keys = Keys::derive(Dialect::SMB_3_0, &KEY, &Chain::fresh()).expect("keys");
+    assert_eq!(format!("{keys:?}"), "Keys { .. }");
 }
 
 /// Names, numbers and texts are those of the C headers, no more and no fewer.
