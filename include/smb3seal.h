@@ -13,8 +13,8 @@
  * numbers, any bytes and any lengths get an answer.
  *
  * - A buffer is a pointer and a length in bytes, and may have any alignment. No pointer may be null, also where the length is 0.
- * - Buffers of one call do not overlap, and a lent number (counter, headers, folded) lies in none of them. This and that each
- *   pointer has as many bytes behind it as its length says is all that the library cannot check for you.
+ * - Buffers of one call do not overlap, a lent number (counter, headers, folded) lies in none of them, and each pointer has as many
+ *   bytes behind it as its length says. The library cannot check this, nor that a counter value is new under its key.
  * - Each function returns SMB3SEAL_DONE (0), or the number of the one reason for which it refused. After a refusal every byte and
  *   every number that was lent is as it was: message, counter, headers, folded, chain, keys.
  * - Where several reasons apply, SMB3SEAL_BAD_LENGTH comes first and then the lowest number wins, except inside the walk over the

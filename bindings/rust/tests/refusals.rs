@@ -145,6 +145,12 @@ fn as_in_the_headers() {
         let line = format!("case SMB3SEAL_{name}: return \"{}\";", refusal.text());
         assert!(texts.contains(&line), "{name}");
     }
+    let version = concat!(
+        "#define SMB3SEAL_VERSION \"",
+        env!("CARGO_PKG_VERSION"),
+        "\"\n"
+    );
+    assert!(header.contains(version));
     let cases = texts.matches("case SMB3SEAL_").count();
     assert_eq!(cases, Refusal::ALL.len() + 1, "all but SMB3SEAL_DONE");
     assert_eq!(Refusal::BAD_TAG.to_string(), "9: the tag differs");
