@@ -1,8 +1,11 @@
-# make         the archive and the header, into dist/
-# make demo    a published session, from negotiate to an opened response, step by step
-# make test    the whole gate: outside tests, then rt ci
-# make bench   sealing, opening, derivation and folding beside other libraries
-# make fuzz    a bounded run of the fuzzer
+# make             the archive and the headers, into dist/
+# make demo        a published session, from negotiate to an opened response, step by step
+# make examples    the examples and the demo, run and compared
+# make packaging   headers, symbols, shared object, install and uninstall, checked
+# make rust        the tests of the Rust wrapper
+# make test        the whole gate: outside tests, then rt ci
+# make bench       sealing, opening, derivation and folding beside other libraries
+# make fuzz        a bounded run of the fuzzer
 # make install, uninstall (PREFIX, DESTDIR), clean
 
 CFLAGS ?= -O2 -g
@@ -12,18 +15,23 @@ ARCHIVE = target/staticlib/libsmb3seal.a
 PRIMITIVES = target/staticlib/libprimitives.a
 BUILD = target/c
 
-all: dist/libsmb3seal.a dist/smb3seal.h
+all: dist/libsmb3seal.a dist/smb3seal.h dist/smb3seal_text.h
 
-# rt decides by itself what has to be proved again.
-target/staticlib/lib%.a: FORCE
+# rt decides by itself what has to be proved again, and runs its own jobs beside each other.
+RATTLE := crates.txt $(shell find crates -name '*.rt' -o -name '*.antt')
+.NOTPARALLEL:
+
+target/staticlib/lib%.a: $(RATTLE)
 	@mkdir -p target
+	@echo "proving and building $@ (from nothing: some minutes)"
 	@rt staticlib $* > target/$*.log 2>&1 || { cat target/$*.log; exit 1; }
+	@touch $@
 
 dist/libsmb3seal.a: $(ARCHIVE)
 	@mkdir -p dist
 	cp $< $@
 
-dist/smb3seal.h: include/smb3seal.h
+dist/%.h: include/%.h
 	@mkdir -p dist
 	cp $< $@
 
@@ -34,6 +42,8 @@ $(BUILD)/smb3_vectors.h: scripts/c-vectors vectors/smb3.json
 setup-%:
 	@scripts/setup $*
 
+include examples/examples.mk
+include packaging/packaging.mk
 include tests/tests.mk
 include bench/bench.mk
 
@@ -44,5 +54,4 @@ test: outside
 clean:
 	rm -rf target dist
 
-FORCE:
-.PHONY: all test clean FORCE
+.PHONY: all test clean

@@ -1,14 +1,26 @@
 /*
  * smb3seal: the message protection of SMB 3 (dialects 3.0, 3.0.2 and 3.1.1) under keys that the caller holds.
  *
- * Five functions. None allocates, keeps state, or calls back. Each is total: any bytes and any lengths get an answer.
+ * Five functions, in the order in which a connection needs them:
  *
- * - A buffer is a pointer and a length in bytes. A buffer of length 0 may have any non-null pointer.
- * - Buffers of one call do not overlap, and a lent number lies in none of them.
+ *     smb3seal_fold            the preauthentication hash value (the chain), message by message
+ *     smb3seal_fold_response   the same for session setup responses
+ *     smb3seal_derive          the four keys of a session
+ *     smb3seal_seal            a message made ready to send
+ *     smb3seal_open            a received message decrypted, if every check holds
+ *
+ * None allocates, keeps state, locks or calls back: calls on different buffers may run in different threads. Each is total: any
+ * numbers, any bytes and any lengths get an answer.
+ *
+ * - A buffer is a pointer and a length in bytes, and may have any alignment. No pointer may be null, also where the length is 0.
+ * - Buffers of one call do not overlap, a lent number (counter, headers, folded) lies in none of them, and each pointer has as many
+ *   bytes behind it as its length says. The library cannot check this, nor that a counter value is new under its key.
  * - Each function returns SMB3SEAL_DONE (0), or the number of the one reason for which it refused. After a refusal every byte and
  *   every number that was lent is as it was: message, counter, headers, folded, chain, keys.
  * - Where several reasons apply, SMB3SEAL_BAD_LENGTH comes first and then the lowest number wins, except inside the walk over the
  *   headers of a compounded message, which ends at the first header that breaks a rule.
+ *
+ * smb3seal_text.h has a sentence for each number. docs/SECURITY.md says what the library does not protect against.
  */
 #ifndef SMB3SEAL_H
 #define SMB3SEAL_H
@@ -19,6 +31,23 @@
 #ifdef __cplusplus
 extern "C" {
 #endif
+
+/*
+ * ---- version
+ *
+ * A number keeps its meaning for good: it is never used again for another reason. Treat every answer but 0 as a refusal, also one
+ * that this header does not name.
+ *
+ * A patch version changes no function and no answer. A minor version may add functions, constants and numbers; it may accept what
+ * was refused (another cipher, a longer message) or refuse what was accepted (another check), and its notes say which. Until 1.0 a
+ * minor version may also give a function other parameters; their number then changes, so that an old call does not compile. From
+ * 1.0 on, that takes a new major version.
+ */
+
+#define SMB3SEAL_VERSION_MAJOR 0
+#define SMB3SEAL_VERSION_MINOR 1
+#define SMB3SEAL_VERSION_PATCH 0
+#define SMB3SEAL_VERSION "0.1.0"
 
 /* ---- dialects and ciphers, as MS-SMB2 numbers them */
 
@@ -31,10 +60,10 @@ extern "C" {
 
 /* ---- lengths */
 
-#define SMB3SEAL_HEADER_BYTES 52        /* the transform header, before every sealed message */
-#define SMB3SEAL_KEY_BYTES 16           /* a cipher key */
-#define SMB3SEAL_CHAIN_BYTES 64         /* a preauthentication integrity hash value */
-#define SMB3SEAL_KEYS_BYTES 64          /* the four keys that smb3seal_derive writes */
+#define SMB3SEAL_HEADER_BYTES 52         /* the transform header, before every sealed message */
+#define SMB3SEAL_KEY_BYTES 16            /* a cipher key */
+#define SMB3SEAL_CHAIN_BYTES 64          /* a preauthentication integrity hash value */
+#define SMB3SEAL_KEYS_BYTES 64           /* the four keys that smb3seal_derive writes */
 #define SMB3SEAL_LONGEST_MESSAGE 1048576 /* bytes behind the transform header, and of a message that is folded */
 
 /* ---- where smb3seal_derive writes each key */
@@ -44,51 +73,70 @@ extern "C" {
 #define SMB3SEAL_CLIENT_TO_SERVER_KEY 32 /* a client seals with it, a server opens with it */
 #define SMB3SEAL_SERVER_TO_CLIENT_KEY 48 /* a server seals with it, a client opens with it */
 
-/* ---- answers */
+/*
+ * ---- answers
+ *
+ * What to do on a number, where its own line does not say more:
+ *
+ * opening, 1 to 16   A server disconnects without an answer (MS-SMB2 3.3.5.2.1.1, 3.3.7.1). A client must not use the message
+ *                    either: it disconnects, or discards the message and leaves the request unanswered. The transports of SMB
+ *                    deliver bytes whole and in order, so a refusal is a fault or an attack, never noise.
+ * sealing, 1 to 16   A fault of the program: it made a message, or names a connection, that no peer would accept. Send nothing,
+ *                    least of all the inner message in clear.
+ * 17 to 40           As its line says, for both roles.
+ *
+ * An answer says nothing about keys or plaintext beyond the rule that was broken, and may be logged.
+ */
 
 #define SMB3SEAL_DONE 0
-#define SMB3SEAL_NOT_ENCRYPTING 1      /* unknown dialect, encryption off, cipher 0, or on 3.1.1 a cipher other than 1 or 2 */
-#define SMB3SEAL_TOO_SHORT 2           /* the whole message has at most 52 bytes */
-#define SMB3SEAL_TOO_LONG 3            /* more than 1,048,576 bytes behind the transform header */
-#define SMB3SEAL_NOT_TRANSFORM 4       /* the message does not begin FD 53 4D 42 */
-#define SMB3SEAL_BAD_FLAGS 5           /* the transform header's Flags are not 0x0001 */
-#define SMB3SEAL_OTHER_SESSION 6       /* the transform header names another session */
-#define SMB3SEAL_BAD_TAG 9             /* the tag differs: the message, its header or the key is not the sender's */
-#define SMB3SEAL_BAD_SIZE 10           /* OriginalMessageSize differs from the bytes behind the header */
-#define SMB3SEAL_INNER_TOO_SHORT 11    /* the inner message has less than 64 bytes */
-#define SMB3SEAL_NOT_HEADER 12         /* an inner header does not begin FE 53 4D 42 */
-#define SMB3SEAL_FIRST_RELATED 13      /* the first inner header has the related flag */
-#define SMB3SEAL_INNER_SESSION 14      /* an inner SessionId differs from the session's */
-#define SMB3SEAL_NEXT_OUTSIDE 15       /* NextCommand is under 64, or the next header is not wholly inside */
-#define SMB3SEAL_NEXT_UNALIGNED 16     /* NextCommand is not a multiple of 8 */
-#define SMB3SEAL_COUNTER_USED_UP 17    /* the counter is 2^64 - 1: the session's keys must not seal any more */
-#define SMB3SEAL_UNKNOWN_DIALECT 18    /* deriving: the dialect is not one of the three */
-#define SMB3SEAL_NO_KEY_MATERIAL 19    /* deriving: the key material is empty */
-#define SMB3SEAL_FOLD_LENGTH 23        /* folding: the message has under 64 or over 1,048,576 bytes */
-#define SMB3SEAL_BAD_LENGTH 40         /* a key is not 16, a chain value not 64, or the place for the keys not 64 bytes long */
+
+/* The connection. Opening: the peer sealed where nothing was agreed, or the program lends the wrong dialect or cipher. */
+#define SMB3SEAL_NOT_ENCRYPTING 1 /* unknown dialect, encryption off, cipher 0, or on 3.1.1 a cipher other than 1 or 2 */
+
+/* The message as it arrived, before any decryption. */
+#define SMB3SEAL_TOO_SHORT 2     /* the whole message has at most 52 bytes */
+#define SMB3SEAL_TOO_LONG 3      /* more than 1,048,576 bytes behind the transform header */
+#define SMB3SEAL_NOT_TRANSFORM 4 /* the message does not begin FD 53 4D 42: it is not sealed, so the program should not open it */
+#define SMB3SEAL_BAD_FLAGS 5     /* the transform header's Flags are not 0x0001 */
+#define SMB3SEAL_OTHER_SESSION 6 /* the transform header's SessionId is not session_id; to find no such session is the same case */
+
+/* 7 and 8 belong to calls with a session table. No function here answers them. */
+
+#define SMB3SEAL_BAD_TAG 9   /* the tag differs: the message, its header or the key is not the sender's */
+#define SMB3SEAL_BAD_SIZE 10 /* OriginalMessageSize differs from the number of bytes behind the header */
+
+/* The inner message. On opening, the tag was right: the peer holds the key and made this message itself. */
+#define SMB3SEAL_INNER_TOO_SHORT 11 /* the inner message has less than 64 bytes */
+#define SMB3SEAL_NOT_HEADER 12      /* an inner header does not begin FE 53 4D 42 */
+#define SMB3SEAL_FIRST_RELATED 13   /* the first inner header has the related flag */
+#define SMB3SEAL_INNER_SESSION 14   /* an inner SessionId differs from the session's, and its header is the first or not related */
+#define SMB3SEAL_NEXT_OUTSIDE 15    /* NextCommand is under 64, or the next header is not wholly inside */
+#define SMB3SEAL_NEXT_UNALIGNED 16  /* NextCommand is not a multiple of 8 */
+
+/* Sealing. End the session, or authenticate it again: new keys start at counter 0. */
+#define SMB3SEAL_COUNTER_USED_UP 17 /* the counter is 2^64 - 1: this key must not seal any more */
+
+/* Deriving. Do not finish the session's setup; a client fails the logon, a server disconnects. */
+#define SMB3SEAL_UNKNOWN_DIALECT 18 /* the dialect is not one of the three: a fault of the program */
+#define SMB3SEAL_NO_KEY_MATERIAL 19 /* the key material is empty: the authentication gave no session key */
+
+/* 20, 21 and 22 belong to calls with a session table. No function here answers them. */
+
+/* Folding. Disconnect: no negotiate or session setup message has such a length. */
+#define SMB3SEAL_FOLD_LENGTH 23 /* the message has under 64 or over 1,048,576 bytes */
+
+/* Every function. A fault of the program, on every dialect. */
+#define SMB3SEAL_BAD_LENGTH 40 /* a key is not 16, a chain value not 64, or the place for the keys not 64 bytes long */
+
+/* ---- functions */
 
 /*
- * At a server 1 to 16 on opening mean: disconnect. On sealing 1 to 16 mean a fault of the program that made the message. 7 and 8
- * belong to calls with a session table and do not arise here.
- */
-
-/*
- * The four keys of a session, written to `keys` in the order signing, application, client to server, server to client.
+ * Folds a negotiate request or response, or a session setup request, into a preauthentication hash value: the value becomes SHA-512
+ * of the old value followed by the message. A fresh value is 64 zero bytes. Negotiate messages are folded into the connection's
+ * value; a session's value starts as a copy of that, and takes the session's own setup messages.
  *
- * dialect   0x0300, 0x0302 or 0x0311
- * material  the session key of the authentication, of any length but 0; its first 16 bytes count, padded with zeros at the right
- * chain     the session's preauthentication hash value; 64 bytes on every dialect, though only 3.1.1 uses them
- * keys      64 bytes
- *
- * Answers 0, or 40, 18, 19.
- */
-uint32_t smb3seal_derive(uint16_t dialect, const uint8_t *material, size_t material_len, const uint8_t *chain, size_t chain_len,
-                         uint8_t *keys, size_t keys_len);
-
-/*
- * Folds a negotiate request or response, or a session setup request, into the preauthentication hash value `chain` (64 bytes):
- * the value becomes SHA-512 of the old value followed by the message. A fresh value is 64 zero bytes; a session's value starts as a
- * copy of its connection's.
+ * chain    reads and writes: the value, SMB3SEAL_CHAIN_BYTES long
+ * message  reads: the whole message from its SMB 2 header on, without the transport's length field
  *
  * Answers 0, or 40, 23.
  */
@@ -96,23 +144,42 @@ uint32_t smb3seal_fold(uint8_t *chain, size_t chain_len, const uint8_t *message,
 
 /*
  * The same for a session setup response, which is folded only if its Status is STATUS_MORE_PROCESSING_REQUIRED (0xC0000016).
- * `*folded` becomes 1 if it was folded and 0 if not; both are done.
+ *
+ * chain    reads and writes: the value, SMB3SEAL_CHAIN_BYTES long; stays as it is where the response is not folded
+ * message  reads: the whole response
+ * folded   writes: 1 if it was folded, 0 if not; both are done
  *
  * Answers 0, or 40, 23.
  */
 uint32_t smb3seal_fold_response(uint8_t *chain, size_t chain_len, const uint8_t *message, size_t message_len, uint32_t *folded);
 
 /*
- * Seals in place. `message` is room for the 52 bytes of the transform header, and behind them the inner message: one SMB 2 message or
- * a compound of them. Afterwards it is the sealed message, of the same length, ready to send.
+ * Derives the four keys of a session (MS-SMB2 3.1.4.2, 3.2.5.3.1), each of 16 bytes.
  *
+ * dialect   SMB3SEAL_DIALECT_..
+ * material  reads: the session key of the authentication, of any length but 0; its first 16 bytes count, padded with zeros at the
+ *           right
+ * chain     reads: the session's preauthentication hash value; SMB3SEAL_CHAIN_BYTES on every dialect, though only 3.1.1 uses it
+ * keys      writes: SMB3SEAL_KEYS_BYTES, each key at its SMB3SEAL_.._KEY
+ *
+ * Answers 0, or 40, 18, 19.
+ */
+uint32_t smb3seal_derive(uint16_t dialect, const uint8_t *material, size_t material_len, const uint8_t *chain, size_t chain_len,
+                         uint8_t *keys, size_t keys_len);
+
+/*
+ * Seals in place. Afterwards the message, of the same length, is ready to send.
+ *
+ * dialect     SMB3SEAL_DIALECT_..
  * encryption  0 for off, anything else for on
  * cipher      SMB3SEAL_CIPHER_..; below 3.1.1 any number but 0 means AES-128-CCM
- * key         16 bytes: the key of this direction
- * session_id  written to the header; inner headers must carry it
- * counter     the send counter of this key. It goes into the nonce and is then one more. Start it at 0 for a new key, and never
- *             hand in a value that this key has sealed with
- * headers     becomes the number of inner headers
+ * key         reads: SMB3SEAL_KEY_BYTES, the key of this direction
+ * session_id  written to the transform header; the inner headers must carry it (a related one behind the first need not)
+ * counter     reads, and writes one more: the send counter of this key, which becomes the nonce. Start it at 0 for a new key, keep
+ *             what is handed back, and never seal twice under one key with one value: it loses secrecy, and under GCM the tag's worth
+ * message     reads and writes: SMB3SEAL_HEADER_BYTES of room, of any content, and behind them the inner message: one SMB 2 message
+ *             or a compound of them
+ * headers     writes: the number of inner headers
  *
  * Answers 0, or 40, 1, 2, 3, 11 to 16, 17.
  */
@@ -120,11 +187,16 @@ uint32_t smb3seal_seal(uint16_t dialect, uint32_t encryption, uint16_t cipher, c
                        uint64_t session_id, uint64_t *counter, uint8_t *message, size_t message_len, uint64_t *headers);
 
 /*
- * Opens in place. `message` is a whole received message; afterwards its first 52 bytes are the transform header as received, and the
- * rest is the plaintext. No byte of plaintext is left in the buffer after a refusal.
+ * Opens in place. Afterwards the first 52 bytes are the transform header as received, and the rest is the plaintext. After a refusal
+ * the message is as received: no byte of plaintext is left in it.
  *
- * The parameters are those of smb3seal_seal, with the key of the other direction; session_id is the session that the caller looked
- * up by the header. `headers` becomes the number of inner headers.
+ * dialect, encryption, cipher   as for smb3seal_seal
+ * key         reads: SMB3SEAL_KEY_BYTES, the key of the other direction
+ * session_id  the session that the caller looked up by the header's SessionId (bytes 44..52, little-endian)
+ * message     reads and writes: the whole received message, without the transport's length field
+ * headers     writes: the number of inner headers
+ *
+ * A sealed message that arrives twice opens twice. Whether its MessageId was seen before is for the caller to check.
  *
  * Answers 0, or 40, 1 to 6, 9 to 16.
  */

@@ -1,0 +1,259 @@
+//! The message protection of SMB 3: the preauthentication hash value, the four keys, sealing and opening in place.
+//!
+//! A thin, safe layer over the five functions of `libsmb3seal.a`, which are proved for all inputs. What the C header asks of a
+//! caller (no overlap, lengths that are true, no null pointer) holds here by the types; lengths of keys and hash values are part of
+//! their types too, so that number 40 does not arise.
+//!
+//! Each call answers, or refuses with the one number that says why. After a refusal every byte and every number that was lent is
+//! as it was.
+//!
+//! ```
+//! use smb3seal::{open, Chain, Cipher, Dialect, Keys, Protection, Sealer};
+//!
+//! # fn main() -> Result<(), smb3seal::Refusal> {
+//! let mut chain = Chain::fresh();
+//! chain.fold(&[0; 64])?; // each negotiate and session setup message in turn
+//! let keys = Keys::derive(Dialect::SMB_3_1_1, b"the session key!", &chain)?;
+//!
+//! // 52 bytes of room, then an ECHO request (command 13) of session 7
+//! let mut message = [0; smb3seal::HEADER_BYTES + 68];
+//! message[52..58].copy_from_slice(b"\xFESMB\x40\0");
+//! message[64] = 13;
+//! message[92] = 7;
+//! message[116] = 4;
+//!
+//! let connection = Protection::on(Dialect::SMB_3_1_1, Cipher::AES_128_GCM);
+//! let mut client = Sealer::new(connection, keys.client_to_server, 7);
+//! assert_eq!(client.seal(&mut message)?, 1); // one inner header
+//! assert_eq!(&message[..4], b"\xFDSMB");
+//!
+//! assert_eq!(open(&connection, &keys.client_to_server, 7, &mut message)?, 1);
+//! assert_eq!(message[64], 13);
+//! # Ok(())
+//! # }
+//! ```
+#![warn(missing_docs)]
+
+mod ffi;
+mod refusal;
+mod sealer;
+
+pub use refusal::Refusal;
+pub use sealer::Sealer;
+
+use std::fmt;
+
+/// Bytes of the transform header, before every sealed message.
+pub const HEADER_BYTES: usize = 52;
+/// The most bytes behind the transform header, and of a message that is folded.
+pub const LONGEST_MESSAGE: usize = 1_048_576;
+
+/// A cipher key.
+pub type Key = [u8; 16];
+
+/// A dialect, as MS-SMB2 numbers it. Any number may stand here; those that are no SMB 3 dialect are refused.
+#[derive(Clone, Copy, Debug, PartialEq, Eq)]
+pub struct Dialect(pub u16);
+
+impl Dialect {
+    /// SMB 3.0
+    pub const SMB_3_0: Dialect = Dialect(0x0300);
+    /// SMB 3.0.2
+    pub const SMB_3_0_2: Dialect = Dialect(0x0302);
+    /// SMB 3.1.1
+    pub const SMB_3_1_1: Dialect = Dialect(0x0311);
+}
+
+/// A cipher, as MS-SMB2 numbers it. Below 3.1.1 any number but 0 means AES-128-CCM.
+#[derive(Clone, Copy, Debug, PartialEq, Eq)]
+pub struct Cipher(pub u16);
+
+impl Cipher {
+    /// AES-128-CCM
+    pub const AES_128_CCM: Cipher = Cipher(1);
+    /// AES-128-GCM
+    pub const AES_128_GCM: Cipher = Cipher(2);
+}
+
+/// What a connection has agreed on.
+#[derive(Clone, Copy, Debug, PartialEq, Eq)]
+pub struct Protection {
+    /// The dialect.
+    pub dialect: Dialect,
+    /// Whether messages are encrypted at all.
+    pub encryption: bool,
+    /// The cipher.
+    pub cipher: Cipher,
+}
+
+impl Protection {
+    /// A connection that encrypts.
+    pub const fn on(dialect: Dialect, cipher: Cipher) -> Self {
+        Protection {
+            dialect,
+            encryption: true,
+            cipher,
+        }
+    }
+}
+
+/// A preauthentication integrity hash value. A session's starts as a copy of its connection's.
+#[derive(Clone, Debug, PartialEq, Eq)]
+pub struct Chain([u8; 64]);
+
+impl Chain {
+    /// 64 zero bytes: the value before the negotiate request.
+    pub const fn fresh() -> Self {
+        Chain([0; 64])
+    }
+
+    /// The value that was stored as these bytes.
+    pub const fn from_bytes(bytes: [u8; 64]) -> Self {
+        Chain(bytes)
+    }
+
+    /// The value's bytes.
+    pub const fn as_bytes(&self) -> &[u8; 64] {
+        &self.0
+    }
+
+    /// Folds a negotiate request or response, or a session setup request: the value becomes SHA-512 of the old value followed by
+    /// the message. Refuses with [`Refusal::FOLD_LENGTH`].
+    pub fn fold(&mut self, message: &[u8]) -> Result<(), Refusal> {
+        // SAFETY: both pointers come from references that live through the call, with their own lengths; `self` is borrowed
+        // mutably, so the two do not overlap.
+        let number =
+            unsafe { ffi::smb3seal_fold(self.0.as_mut_ptr(), 64, message.as_ptr(), message.len()) };
+        Refusal::check(number)
+    }
+
+    /// Folds a session setup response, if its Status is STATUS_MORE_PROCESSING_REQUIRED; tells whether it was. Refuses with
+    /// [`Refusal::FOLD_LENGTH`].
+    pub fn fold_response(&mut self, message: &[u8]) -> Result<bool, Refusal> {
+        let mut folded = 0;
+        // SAFETY: as in `fold`; `folded` is a local of its own.
+        let number = unsafe {
+            ffi::smb3seal_fold_response(
+                self.0.as_mut_ptr(),
+                64,
+                message.as_ptr(),
+                message.len(),
+                &mut folded,
+            )
+        };
+        Refusal::check(number).map(|()| folded == 1)
+    }
+}
+
+/// The four keys of a session. They are not printed, and not wiped when dropped.
+#[derive(Clone, PartialEq, Eq)]
+pub struct Keys {
+    /// Signs messages.
+    pub signing: Key,
+    /// For the application above.
+    pub application: Key,
+    /// A client seals with it, a server opens with it.
+    pub client_to_server: Key,
+    /// A server seals with it, a client opens with it.
+    pub server_to_client: Key,
+}
+
+impl Keys {
+    /// Derives the keys from the session key of the authentication, of any length but 0: its first 16 bytes count, padded with
+    /// zeros at the right. `chain` counts on 3.1.1 alone. Refuses with [`Refusal::UNKNOWN_DIALECT`] or
+    /// [`Refusal::NO_KEY_MATERIAL`].
+    pub fn derive(dialect: Dialect, material: &[u8], chain: &Chain) -> Result<Self, Refusal> {
+        let mut keys = [[0; 16]; 4];
+        // SAFETY: the pointers come from references that live through the call, with their own lengths; `keys` is a local of its
+        // own, and its 64 bytes are contiguous.
+        let number = unsafe {
+            ffi::smb3seal_derive(
+                dialect.0,
+                material.as_ptr(),
+                material.len(),
+                chain.0.as_ptr(),
+                64,
+                keys.as_mut_ptr().cast(),
+                64,
+            )
+        };
+        let [signing, application, client_to_server, server_to_client] = keys;
+        Refusal::check(number).map(|()| Keys {
+            signing,
+            application,
+            client_to_server,
+            server_to_client,
+        })
+    }
+}
+
+impl fmt::Debug for Keys {
+    fn fmt(&self, f: &mut fmt::Formatter<'_>) -> fmt::Result {
+        f.debug_struct("Keys").finish_non_exhaustive()
+    }
+}
+
+/// Seals in place: `message` is [`HEADER_BYTES`] of room and behind them the inner message, and becomes the sealed message.
+/// Returns the number of inner headers.
+///
+/// `counter` is the send counter of this key: it becomes the nonce, and is then one more. Start it at 0 for a new key, and never
+/// seal twice under one key with one value; a [`Sealer`] keeps it for you.
+///
+/// Refuses with the numbers 1, 2, 3 and 11 to 17.
+pub fn seal(
+    protection: &Protection,
+    key: &Key,
+    session_id: u64,
+    counter: &mut u64,
+    message: &mut [u8],
+) -> Result<u64, Refusal> {
+    let mut headers = 0;
+    // SAFETY: the pointers come from references that live through the call, with their own lengths; what is written is borrowed
+    // mutably, so nothing overlaps.
+    let number = unsafe {
+        ffi::smb3seal_seal(
+            protection.dialect.0,
+            protection.encryption.into(),
+            protection.cipher.0,
+            key.as_ptr(),
+            key.len(),
+            session_id,
+            counter,
+            message.as_mut_ptr(),
+            message.len(),
+            &mut headers,
+        )
+    };
+    Refusal::check(number).map(|()| headers)
+}
+
+/// Opens in place: `message` is a whole received message; its first [`HEADER_BYTES`] stay, and the rest becomes the plaintext.
+/// Returns the number of inner headers. After a refusal no byte of plaintext is left.
+///
+/// `session_id` is the session that the caller looked up by the header. A message that arrives twice opens twice: whether its
+/// MessageId was seen before is for the caller to check.
+///
+/// Refuses with the numbers 1 to 6 and 9 to 16.
+pub fn open(
+    protection: &Protection,
+    key: &Key,
+    session_id: u64,
+    message: &mut [u8],
+) -> Result<u64, Refusal> {
+    let mut headers = 0;
+    // SAFETY: as in `seal`.
+    let number = unsafe {
+        ffi::smb3seal_open(
+            protection.dialect.0,
+            protection.encryption.into(),
+            protection.cipher.0,
+            key.as_ptr(),
+            key.len(),
+            session_id,
+            message.as_mut_ptr(),
+            message.len(),
+            &mut headers,
+        )
+    };
+    Refusal::check(number).map(|()| headers)
+}

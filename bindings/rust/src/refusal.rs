@@ -1,0 +1,79 @@
+//! The numbers for which a call refuses, as include/smb3seal.h names them.
+use std::{error::Error, fmt};
+
+/// The number of the one reason for which a call refused. include/smb3seal.h says what a server and a client do on each.
+#[derive(Clone, Copy, PartialEq, Eq, Hash)]
+pub struct Refusal(u32);
+
+macro_rules! refusals {
+    ($($name:ident = $number:literal, $text:literal;)*) => {
+        impl Refusal {
+            $(
+                #[doc = $text]
+                pub const $name: Refusal = Refusal($number);
+            )*
+
+            /// Every number that has a name, with its name.
+            pub const ALL: &'static [(&'static str, Refusal)] = &[$((stringify!($name), Refusal::$name),)*];
+
+            /// A sentence for logs.
+            pub const fn text(self) -> &'static str {
+                match self {
+                    $(Refusal::$name => $text,)*
+                    _ => "unknown number",
+                }
+            }
+        }
+    };
+}
+
+refusals! {
+    NOT_ENCRYPTING = 1, "this connection does not encrypt: dialect, setting or cipher";
+    TOO_SHORT = 2, "the message is not longer than a transform header";
+    TOO_LONG = 3, "the message is longer than 1,048,576 bytes behind its transform header";
+    NOT_TRANSFORM = 4, "the message does not begin with a transform header";
+    BAD_FLAGS = 5, "the transform header's Flags are not 0x0001";
+    OTHER_SESSION = 6, "the transform header names another session";
+    BAD_TAG = 9, "the tag differs";
+    BAD_SIZE = 10, "OriginalMessageSize differs from the message's size";
+    INNER_TOO_SHORT = 11, "the inner message is shorter than a header";
+    NOT_HEADER = 12, "an inner header does not begin FE 53 4D 42";
+    FIRST_RELATED = 13, "the first inner header has the related flag";
+    INNER_SESSION = 14, "an inner header names another session";
+    NEXT_OUTSIDE = 15, "NextCommand points into its own header or past the end";
+    NEXT_UNALIGNED = 16, "NextCommand is not a multiple of 8";
+    COUNTER_USED_UP = 17, "the send counter is used up";
+    UNKNOWN_DIALECT = 18, "the dialect is none of 3.0, 3.0.2 and 3.1.1";
+    NO_KEY_MATERIAL = 19, "the key material is empty";
+    FOLD_LENGTH = 23, "a message to fold has under 64 or over 1,048,576 bytes";
+    BAD_LENGTH = 40, "a lent key, chain value or place for keys has the wrong length";
+}
+
+impl Refusal {
+    /// The number.
+    pub const fn number(self) -> u32 {
+        self.0
+    }
+
+    /// What an answer of the archive means.
+    pub(crate) fn check(answer: u32) -> Result<(), Refusal> {
+        match answer {
+            0 => Ok(()),
+            number => Err(Refusal(number)),
+        }
+    }
+}
+
+impl fmt::Display for Refusal {
+    fn fmt(&self, f: &mut fmt::Formatter<'_>) -> fmt::Result {
+        write!(f, "{}: {}", self.0, self.text())
+    }
+}
+
+impl fmt::Debug for Refusal {
+    fn fmt(&self, f: &mut fmt::Formatter<'_>) -> fmt::Result {
+        write!(f, "Refusal({self})")
+    }
+}
+
+impl Error for Refusal {}

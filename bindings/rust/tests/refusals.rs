@@ -1,0 +1,157 @@
+//! What is refused, with which number, and that a refusal changes nothing.
+use smb3seal::{
+    open, seal, Chain, Cipher, Dialect, Keys, Protection, Refusal, Sealer, HEADER_BYTES,
+    LONGEST_MESSAGE,
+};
+
+const KEY: [u8; 16] = [7; 16];
+const GCM: Protection = Protection::on(Dialect::SMB_3_1_1, Cipher::AES_128_GCM);
+
+/// Room for the transform header, and one plain header of session 5.
+fn plain(inner: usize) -> Vec<u8> {
+    let mut message = vec![0; HEADER_BYTES + inner];
+    message[52..56].copy_from_slice(b"\xFESMB");
+    message[92] = 5;
+    message
+}
+
+fn sealed(inner: usize) -> Vec<u8> {
+    let mut message = plain(inner);
+    assert_eq!(seal(&GCM, &KEY, 5, &mut 3, &mut message), Ok(1));
+    message
+}
+
+/// Opening refuses with this number and leaves the message.
+fn opening(protection: &Protection, mut message: Vec<u8>, expected: Refusal) {
+    let lent = message.clone();
+    assert_eq!(open(protection, &KEY, 5, &mut message), Err(expected));
+    assert_eq!(message, lent);
+}
+
+/// Sealing refuses with this number and leaves message and counter.
+fn sealing(protection: &Protection, from: u64, mut message: Vec<u8>, expected: Refusal) {
+    let (lent, mut counter) = (message.clone(), from);
+    assert_eq!(
+        seal(protection, &KEY, 5, &mut counter, &mut message),
+        Err(expected)
+    );
+    assert_eq!((message, counter), (lent, from));
+}
+
+#[test]
+fn openings() {
+    let off = Protection {
+        encryption: false,
+        ..GCM
+    };
+    opening(&off, sealed(64), Refusal::NOT_ENCRYPTING);
+    opening(
+        &Protection::on(Dialect(0x0210), Cipher(1)),
+        sealed(64),
+        Refusal::NOT_ENCRYPTING,
+    );
+    opening(&GCM, Vec::new(), Refusal::TOO_SHORT);
+    opening(&GCM, sealed(64)[..52].to_vec(), Refusal::TOO_SHORT);
+    opening(&GCM, vec![0xFD; 53 + LONGEST_MESSAGE], Refusal::TOO_LONG);
+    for (place, expected) in [
+        (0, Refusal::NOT_TRANSFORM),
+        (4, Refusal::BAD_TAG),
+        (42, Refusal::BAD_FLAGS),
+        (44, Refusal::OTHER_SESSION),
+        (115, Refusal::BAD_TAG),
+    ] {
+        let mut message = sealed(64);
+        message[place] ^= 1;
+        opening(&GCM, message, expected);
+    }
+    opening(
+        &Protection::on(Dialect::SMB_3_0, Cipher(2)),
+        sealed(64),
+        Refusal::BAD_TAG,
+    );
+}
+
+#[test]
+fn sealings() {
+    sealing(&GCM, 0, plain(64)[..115].to_vec(), Refusal::INNER_TOO_SHORT);
+    sealing(&GCM, u64::MAX, plain(64), Refusal::COUNTER_USED_UP);
+    for (place, value, expected) in [
+        (52, 0, Refusal::NOT_HEADER),
+        (68, 4, Refusal::FIRST_RELATED),
+        (92, 6, Refusal::INNER_SESSION),
+        (72, 65, Refusal::NEXT_OUTSIDE),
+    ] {
+        let mut message = plain(128);
+        message[place] = value;
+        sealing(&GCM, 9, message, expected);
+    }
+    let mut message = plain(136);
+    message[72] = 68;
+    sealing(&GCM, 9, message, Refusal::NEXT_UNALIGNED);
+}
+
+#[test]
+fn folds_and_keys() {
+    let mut chain = Chain::from_bytes([3; 64]);
+    assert_eq!(chain.fold(&[0; 63]), Err(Refusal::FOLD_LENGTH));
+    assert_eq!(
+        chain.fold_response(&vec![0; LONGEST_MESSAGE + 1]),
+        Err(Refusal::FOLD_LENGTH)
+    );
+    assert_eq!(chain.fold_response(&[0; 64]), Ok(false));
+    assert_eq!(chain, Chain::from_bytes([3; 64]));
+    let refused = |dialect, material: &[u8]| Keys::derive(dialect, material, &chain).err();
+    assert_eq!(
+        refused(Dialect(0x0210), &KEY),
+        Some(Refusal::UNKNOWN_DIALECT)
+    );
+    assert_eq!(
+        refused(Dialect::SMB_3_0_2, &[]),
+        Some(Refusal::NO_KEY_MATERIAL)
+    );
+}
+
+/// A refused message takes no counter value; the next two take 0 and 1.
+#[test]
+fn sealer_keeps_the_counter() {
+    let mut sealer = Sealer::new(GCM, KEY, 5);
+    assert_eq!(sealer.seal(&mut plain(63)), Err(Refusal::INNER_TOO_SHORT));
+    for nonce in 0..2 {
+        let (mut message, mut counter) = (plain(64), nonce);
+        let mut expected = message.clone();
+        assert_eq!(sealer.seal(&mut message), Ok(1));
+        assert_eq!(seal(&GCM, &KEY, 5, &mut counter, &mut expected), Ok(1));
+        assert_eq!(message, expected);
+        assert_eq!(message[20..28], nonce.to_le_bytes());
+    }
+}
+
+#[test]
+fn keys_are_not_printed() {
+    let keys = Keys::derive(Dialect::SMB_3_0, &KEY, &Chain::fresh()).expect("keys");
+    assert_eq!(format!("{keys:?}"), "Keys { .. }");
+}
+
+/// Names, numbers and texts are those of the C headers, no more and no fewer.
+#[test]
+fn as_in_the_headers() {
+    let header = include_str!("../../../include/smb3seal.h");
+    let texts = include_str!("../../../include/smb3seal_text.h");
+    for (name, refusal) in Refusal::ALL {
+        assert!(
+            header.contains(&format!("#define SMB3SEAL_{name} {} ", refusal.number())),
+            "{name}"
+        );
+        let line = format!("case SMB3SEAL_{name}: return \"{}\";", refusal.text());
+        assert!(texts.contains(&line), "{name}");
+    }
+    let version = concat!(
+        "#define SMB3SEAL_VERSION \"",
+        env!("CARGO_PKG_VERSION"),
+        "\"\n"
+    );
+    assert!(header.contains(version));
+    let cases = texts.matches("case SMB3SEAL_").count();
+    assert_eq!(cases, Refusal::ALL.len() + 1, "all but SMB3SEAL_DONE");
+    assert_eq!(Refusal::BAD_TAG.to_string(), "9: the tag differs");
+}
