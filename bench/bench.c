@@ -33,8 +33,11 @@ int main(int argc, char **argv)
     }
     for (int c = 0; c < COLUMNS; c++) column_start(c, descriptions[c]);
     report_columns(descriptions);
-    for (int pass = 0; pass < PASSES; pass++)
+    fflush(stdout);
+    for (int pass = 0; pass < PASSES; pass++) {
+        fprintf(stderr, "pass %d of %d\n", pass + 1, PASSES);
         for (int t = 0; t < TASKS; t++) measure(t, best[t]);
+    }
     columns_end();
     report_table(best);
     return report_csv(best, argv[1]) ? 0 : 1;

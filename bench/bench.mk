@@ -1,5 +1,5 @@
-# Benchmarks: never part of the tests. `make bench` takes about a minute and a half; its figures are in target/c: speed.csv, speed.png and
-# stack.csv. `make bench-docs` puts them into docs/.
+# Benchmarks: never part of the tests. `make bench` takes some two minutes where the archives are proved; its figures are in
+# target/c: speed.csv, speed.png and stack.csv. `make bench-docs` puts them into docs/.
 
 BENCH_PARTS = bench batch columns report peer_smb3seal peer_openssl peer_mbedtls peer_nettle peer_wolfssl peer_libtomcrypt
 BENCH_SOURCES = $(BENCH_PARTS:%=bench/%.c)

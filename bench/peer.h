@@ -13,6 +13,7 @@
  * - fold: ours is smb3seal_fold. A peer hashes the chain value and the message.
  * - sha256, ctr: ours are exports of the same proved code for tests; ctr sets the key up in each call.
  * Contexts that a library keeps in allocated memory, and algorithms that it looks up by name, are made once, before the timing.
+ * What a call of a library allocates by itself is timed: mbedTLS for a CCM or GCM key, libtomcrypt for a GCM key's table of 64 KiB.
  */
 #ifndef PEER_H
 #define PEER_H

@@ -46,7 +46,8 @@ static int derive(const struct derivation *d, uint8_t *keys)
 {
     for (int i = 0; i < 4; i++) {
         unsigned long length = KEY_BYTES;
-        if (hmac_memory(sha256_index, d->material, KEY_BYTES, d->strings[i], d->lengths[i], keys + KEY_BYTES * i, &length) != CRYPT_OK)
+        if (hmac_memory(sha256_index, d->material, KEY_BYTES, d->strings[i], d->lengths[i], keys + KEY_BYTES * i, &length) !=
+            CRYPT_OK)
             return 0;
     }
     return 1;

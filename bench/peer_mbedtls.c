@@ -70,15 +70,15 @@ static int ccm_open(const uint8_t *key, uint8_t *m, size_t n)
 static int gcm_seal(const uint8_t *key, uint8_t *m, size_t n)
 {
     return mbedtls_gcm_setkey(&gcm, MBEDTLS_CIPHER_ID_AES, key, 128) == 0 &&
-           mbedtls_gcm_crypt_and_tag(&gcm, MBEDTLS_GCM_ENCRYPT, n, m + NONCE_AT, GCM_NONCE_BYTES, m + AAD_AT, AAD_BYTES, m + TEXT_AT,
-                                     m + TEXT_AT, TAG_BYTES, m + TAG_AT) == 0;
+           mbedtls_gcm_crypt_and_tag(&gcm, MBEDTLS_GCM_ENCRYPT, n, m + NONCE_AT, GCM_NONCE_BYTES, m + AAD_AT, AAD_BYTES,
+                                     m + TEXT_AT, m + TEXT_AT, TAG_BYTES, m + TAG_AT) == 0;
 }
 
 static int gcm_open(const uint8_t *key, uint8_t *m, size_t n)
 {
     return mbedtls_gcm_setkey(&gcm, MBEDTLS_CIPHER_ID_AES, key, 128) == 0 &&
-           mbedtls_gcm_auth_decrypt(&gcm, n, m + NONCE_AT, GCM_NONCE_BYTES, m + AAD_AT, AAD_BYTES, m + TAG_AT, TAG_BYTES, m + TEXT_AT,
-                                    m + TEXT_AT) == 0;
+           mbedtls_gcm_auth_decrypt(&gcm, n, m + NONCE_AT, GCM_NONCE_BYTES, m + AAD_AT, AAD_BYTES, m + TAG_AT, TAG_BYTES,
+                                    m + TEXT_AT, m + TEXT_AT) == 0;
 }
 
 static int derive(const struct derivation *d, uint8_t *keys)

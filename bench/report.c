@@ -1,12 +1,28 @@
 #include "report.h"
 
+#include <cpuid.h>
+#include <stdint.h>
 #include <stdio.h>
+
+static const char *yes_or_no(int b)
+{
+    return b ? "yes" : "no";
+}
+
+static void print_processor(void)
+{
+    uint32_t name[13] = {0}, b = 0, unused;
+    for (uint32_t i = 0; i < 3; i++)
+        __get_cpuid(0x80000002 + i, &name[4 * i], &name[4 * i + 1], &name[4 * i + 2], &name[4 * i + 3]);
+    __get_cpuid_count(7, 0, &unused, &b, &unused, &unused);
+    printf("%s: SSSE3 %s, AVX2 %s, AES-NI %s, PCLMULQDQ %s, SHA extensions %s\n", (const char *)name,
+           yes_or_no(__builtin_cpu_supports("ssse3")), yes_or_no(__builtin_cpu_supports("avx2")),
+           yes_or_no(__builtin_cpu_supports("aes")), yes_or_no(__builtin_cpu_supports("pclmul")), yes_or_no((b >> 29 & 1) != 0));
+}
 
 void report_columns(char descriptions[COLUMNS][DESCRIPTION])
 {
-    printf("processor: AES-NI %s, PCLMULQDQ %s, SSSE3 %s, AVX2 %s\n", __builtin_cpu_supports("aes") ? "yes" : "no",
-           __builtin_cpu_supports("pclmul") ? "yes" : "no", __builtin_cpu_supports("ssse3") ? "yes" : "no",
-           __builtin_cpu_supports("avx2") ? "yes" : "no");
+    print_processor();
     for (int c = 0; c < COLUMNS; c++) printf("%-12s %-9s %s\n", columns[c].library, columns[c].path, descriptions[c]);
     printf("\n");
 }
@@ -29,9 +45,10 @@ static double megabytes_per_second(int task, double seconds)
 
 static void print_row(int task, const double *seconds)
 {
-    printf("%-15s %8zu %10.2f", work_names[tasks[task].work], tasks[task].n, 1e6 * seconds[OURS]);
-    if (tasks[task].n == 0) printf(" %8s", "");
-    else printf(" %8.1f", megabytes_per_second(task, seconds[OURS]));
+    if (tasks[task].n == 0) printf("%-15s %8s %10.2f %8s", work_names[tasks[task].work], "", 1e6 * seconds[OURS], "");
+    else
+        printf("%-15s %8zu %10.2f %8.1f", work_names[tasks[task].work], tasks[task].n, 1e6 * seconds[OURS],
+               megabytes_per_second(task, seconds[OURS]));
     for (int c = 1; c < COLUMNS; c++) {
         if (seconds[c] == 0) printf(" %11s", "-");
         else printf(" %11.*f", seconds[c] < 0.1 * seconds[OURS] ? 3 : 2, seconds[c] / seconds[OURS]);

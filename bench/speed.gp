@@ -5,8 +5,10 @@ set terminal pngcairo size 900,740 font 'DejaVu Sans,10' background '#ffffff'
 set output ARG2
 
 rows = 10
-array library[rows] = ['smb3seal', 'mbedTLS', 'nettle', 'wolfSSL', 'libtomcrypt', 'OpenSSL', 'OpenSSL', 'mbedTLS', 'nettle', 'OpenSSL']
-array path[rows] = ['software', 'software', 'software', 'software', 'software', 'scalar', 'vector', 'hardware', 'hardware', 'hardware']
+array library[rows] = ['smb3seal', 'mbedTLS', 'nettle', 'wolfSSL', 'libtomcrypt', 'OpenSSL', 'OpenSSL', \
+'mbedTLS', 'nettle', 'OpenSSL']
+array path[rows] = ['software', 'software', 'software', 'software', 'software', 'scalar', 'vector', \
+'hardware', 'hardware', 'hardware']
 row(l, p) = sum [i = 1:rows] (library[i] eq l && path[i] eq p ? i : 0)
 name(i) = i == 1 ? '{/:Bold smb3seal}' : library[i].', '.path[i]
 
@@ -37,7 +39,8 @@ with points pt shape[k] ps 1.4 lc rgb colour[k] title size_name[k]"
 
 set multiplot title 'smb3seal beside other libraries (right is faster)' font 'DejaVu Sans,13'
 set key at screen 0.97, 0.945 right horizontal samplen 0.5 width 1 reverse Left
-set label 1 'hardware: AES-NI, PCLMULQDQ and SHA extensions, as far as the library uses them. vector: OpenSSL with none of these three.' \
+set label 1 \
+'hardware: AES-NI, PCLMULQDQ and SHA extensions, as far as the library uses them. vector: OpenSSL with none of these three.' \
 at screen 0.02, 0.042 textcolor '#555555' font 'DejaVu Sans,9'
 set label 2 'scalar: OpenSSL with no extension at all. Dotted line: smb3seal at 64 KiB.' \
 at screen 0.02, 0.018 textcolor '#555555' font 'DejaVu Sans,9'

@@ -1,7 +1,7 @@
 /*
- * How much stack each function of smb3seal.h needs, on the longest inputs. Each call runs on a stack of its own, painted beforehand,
- * and the deepest byte that is not as painted counts. It is done with two paints, so that a byte which happens to be written as one of
- * them is seen with the other. The figure has the frame of a caller in it, some 100 bytes.
+ * How much stack each function of smb3seal.h needs, on the longest inputs. Each call runs on a stack of its own, painted
+ * beforehand, and the deepest byte that is not as painted counts. It is done with two paints, so that a byte which happens to be
+ * written as one of them is seen with the other. The figure has the frame of a caller in it, some 100 bytes.
  *
  * Link with -z now: a symbol that is looked up at its first call would be looked up on the painted stack.
  *
