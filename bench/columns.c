@@ -30,7 +30,7 @@ static struct {
     int questions, answers;
 } processes[COLUMNS];
 
-static void stop(int column, const char *what)
+static _Noreturn void stop(int column, const char *what)
 {
     fprintf(stderr, "bench: %s, %s: %s\n", columns[column].library, columns[column].path, what);
     exit(1);
