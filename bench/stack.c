@@ -1,0 +1,177 @@
+/*
+ * How much stack each function of smb3seal.h needs, on the longest inputs. Each call runs on a stack of its own, painted
+ * beforehand, and the deepest byte that is not as painted counts. It is done with two paints, so that a byte which happens to be
+ * written as one of them is seen with the other. The figure has the frame of a caller in it, some 100 bytes.
+ *
+ * Link with -z now: a symbol that is looked up at its first call would be looked up on the painted stack.
+ *
+ * Usage: stack FILE.csv
+ */
+#define _XOPEN_SOURCE 700
+#include <stdint.h>
+#include <stdio.h>
+#include <stdlib.h>
+#include <string.h>
+#include <ucontext.h>
+
+#include "../include/smb3seal.h"
+#include "../tests/primitives.h"
+
+enum { STACK = 1048576, HEADER = SMB3SEAL_HEADER_BYTES, LONGEST = SMB3SEAL_LONGEST_MESSAGE, SESSION = 0x3039 };
+enum { CCM = SMB3SEAL_CIPHER_AES_128_CCM, GCM = SMB3SEAL_CIPHER_AES_128_GCM };
+
+/* A call: what is lent to it, and the answer that it has to give. */
+struct call {
+    const char *name;
+    void (*prepare)(void);
+    uint32_t (*run)(void);
+    uint16_t cipher;
+    uint32_t answer;
+};
+
+static _Alignas(64) uint8_t painted[STACK];
+static uint8_t message[HEADER + LONGEST], keys[64], chain[64];
+static const uint8_t key[16] = {1, 2, 3};
+static const struct call *current;
+static const uint8_t *caller;
+static uint32_t answer;
+
+static uint32_t derive_300(void)
+{
+    return smb3seal_derive(SMB3SEAL_DIALECT_300, message, LONGEST, chain, 64, keys, 64);
+}
+
+static uint32_t derive_311(void)
+{
+    return smb3seal_derive(SMB3SEAL_DIALECT_311, message, LONGEST, chain, 64, keys, 64);
+}
+
+static uint32_t fold(void)
+{
+    return smb3seal_fold(chain, 64, message, LONGEST);
+}
+
+static uint32_t fold_response(void)
+{
+    uint32_t folded;
+    return smb3seal_fold_response(chain, 64, message, LONGEST, &folded);
+}
+
+static uint32_t seal(void)
+{
+    uint64_t counter = 0, headers;
+    return smb3seal_seal(SMB3SEAL_DIALECT_311, 1, current->cipher, key, 16, SESSION, &counter, message, sizeof message, &headers);
+}
+
+static uint32_t open(void)
+{
+    uint64_t headers;
+    return smb3seal_open(SMB3SEAL_DIALECT_311, 1, current->cipher, key, 16, SESSION, message, sizeof message, &headers);
+}
+
+/* The longest message, a chain of headers of 64 bytes each. */
+static void plain(void)
+{
+    memset(message, 0, sizeof message);
+    for (size_t at = HEADER; at < sizeof message; at += 64) {
+        memcpy(message + at, "\xFESMB", 4);
+        message[at + 20] = at + 64 < sizeof message ? 64 : 0;
+        memcpy(message + at + 40, "\x39\x30", 2);
+    }
+}
+
+/* A session setup response that has to be folded: its Status says that more processing is required. */
+static void response(void)
+{
+    plain();
+    memcpy(message + 8, "\x16\0\0\xC0", 4);
+}
+
+static void sealed(void)
+{
+    plain();
+    if (seal() != SMB3SEAL_DONE) exit(1);
+}
+
+static void sealed_with_bad_tag(void)
+{
+    sealed();
+    message[4] ^= 1;
+}
+
+/* Sealed by a peer that did not look at its last header. */
+static void sealed_with_bad_header(void)
+{
+    static const uint8_t nonce[12];
+    plain();
+    memcpy(message, "\xFDSMB", 4);
+    message[38] = LONGEST >> 16;
+    message[42] = 1;
+    memcpy(message + 44, "\x39\x30", 2);
+    message[sizeof message - 64] = 0;
+    uint32_t r = current->cipher == CCM
+                     ? primitives_ccm_seal(key, 16, nonce, 11, message + 20, 32, message + HEADER, LONGEST, message + 4, 16)
+                     : primitives_gcm_seal(key, 16, nonce, 12, message + 20, 32, message + HEADER, LONGEST, message + 4, 16);
+    if (r != 0) exit(1);
+}
+
+static const struct call calls[] = {
+    {"derive, 3.0", plain, derive_300, 0, SMB3SEAL_DONE},
+    {"derive, 3.1.1", plain, derive_311, 0, SMB3SEAL_DONE},
+    {"fold", plain, fold, 0, SMB3SEAL_DONE},
+    {"fold_response", response, fold_response, 0, SMB3SEAL_DONE},
+    {"seal, CCM", plain, seal, CCM, SMB3SEAL_DONE},
+    {"seal, GCM", plain, seal, GCM, SMB3SEAL_DONE},
+    {"open, CCM", sealed, open, CCM, SMB3SEAL_DONE},
+    {"open, GCM", sealed, open, GCM, SMB3SEAL_DONE},
+    {"open, CCM, bad tag", sealed_with_bad_tag, open, CCM, SMB3SEAL_BAD_TAG},
+    {"open, GCM, bad tag", sealed_with_bad_tag, open, GCM, SMB3SEAL_BAD_TAG},
+    {"open, CCM, bad inner header", sealed_with_bad_header, open, CCM, SMB3SEAL_NOT_HEADER},
+    {"open, GCM, bad inner header", sealed_with_bad_header, open, GCM, SMB3SEAL_NOT_HEADER},
+};
+
+static void run_current(void)
+{
+    caller = __builtin_frame_address(0);
+    answer = current->run();
+}
+
+/* The bytes from the caller's frame down to the deepest that lost its paint. */
+static size_t need(const struct call *c, int paint)
+{
+    ucontext_t here, there;
+    size_t deepest = 0;
+    current = c;
+    c->prepare();
+    memset(painted, paint, STACK);
+    if (getcontext(&there) != 0) exit(1);
+    there.uc_stack.ss_sp = painted;
+    there.uc_stack.ss_size = STACK;
+    there.uc_link = &here;
+    makecontext(&there, run_current, 0);
+    if (swapcontext(&here, &there) != 0) exit(1);
+    if (answer != c->answer) {
+        fprintf(stderr, "stack: %s answered %u\n", c->name, answer);
+        exit(1);
+    }
+    while (painted[deepest] == paint) deepest++;
+    return (size_t)(caller - (painted + deepest));
+}
+
+int main(int argc, char **argv)
+{
+    FILE *csv = argc == 2 ? fopen(argv[1], "w") : NULL;
+    if (csv == NULL) {
+        fprintf(stderr, "usage: stack FILE.csv\n");
+        return 2;
+    }
+    fprintf(csv, "call,bytes_of_stack\n");
+    printf("\n%-30s %s\n", "", "bytes of stack");
+    for (size_t i = 0; i < sizeof calls / sizeof calls[0]; i++) {
+        size_t a = need(&calls[i], 0xA5), b = need(&calls[i], 0x5A);
+        size_t bytes = a > b ? a : b;
+        printf("%-30s %8zu\n", calls[i].name, bytes);
+        fprintf(csv, "\"%s\",%zu\n", calls[i].name, bytes);
+    }
+    return fclose(csv) == 0 ? 0 : 1;
+}
