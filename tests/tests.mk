@@ -14,7 +14,7 @@ $(BUILD)/sanitized/%.o: tests/%.c $(TEST_HEADERS)
 	$(CC) $(WARNINGS) $(CFLAGS) $(SANITIZE) -I$(BUILD) -c $< -o $@
 
 define link
-$(LIBRARY_TESTS:%=$(BUILD)/$(1)/%): $(BUILD)/$(1)/%: $(BUILD)/$(1)/%.o $(SHARED:%=$(BUILD)/$(1)/%.o) $(ARCHIVE)
+$(patsubst %,$(BUILD)/$(1)/%,$(LIBRARY_TESTS) capture): $(BUILD)/$(1)/%: $(BUILD)/$(1)/%.o $(SHARED:%=$(BUILD)/$(1)/%.o) $(ARCHIVE)
 	$(CC) $(2) $$^ -lcrypto -o $$@
 
 $(BUILD)/$(1)/primitives_test: $(addprefix $(BUILD)/$(1)/,primitives_test.o check.o openssl_aead.o) $(PRIMITIVES)
@@ -28,8 +28,15 @@ PROGRAMS = $(foreach t,primitives_test $(LIBRARY_TESTS),$(BUILD)/plain/$(t) $(BU
 VALGRIND = valgrind --quiet --error-exitcode=1 --leak-check=full
 VALGRIND_CASES = 10000
 
+# Each program once more, with a library that can be made wrong.
+FIVE = derive fold fold_response seal open
+MUTANTS = $(LIBRARY_TESTS:%=$(BUILD)/mutants/%)
+$(MUTANTS): $(BUILD)/mutants/%: $(BUILD)/plain/%.o $(SHARED:%=$(BUILD)/plain/%.o) $(BUILD)/plain/mutants.o $(ARCHIVE)
+	@mkdir -p $(@D)
+	$(CC) $(FIVE:%=-Wl,--wrap=smb3seal_%) $^ -lcrypto -o $@
+
 outside: setup-test
-	@$(MAKE) --no-print-directory $(PROGRAMS)
+	@$(MAKE) --no-print-directory $(PROGRAMS) $(MUTANTS) $(BUILD)/plain/capture
 	scripts/vectors --check
 	scripts/archive-symbols $(PRIMITIVES)
 	scripts/archive-symbols $(ARCHIVE)
@@ -37,6 +44,19 @@ outside: setup-test
 	for t in $(PROGRAMS); do $$t || exit 1; done
 	for t in vectors_test walk_test lengths_test; do $(VALGRIND) $(BUILD)/plain/$$t || exit 1; done
 	$(VALGRIND) $(BUILD)/plain/random_test 1 $(VALGRIND_CASES)
+	scripts/mutants $(BUILD)/mutants tests/mutants.c
+	scripts/tshark-check $(BUILD)/plain/capture $(BUILD)/tshark
 	rt fmt --check
 
-.PHONY: outside
+# A bounded run of the fuzzer, on demand. What it finds goes to $(BUILD)/fuzz; the inputs that it keeps, to $(BUILD)/fuzz/inputs.
+FUZZ_SECONDS ?= 60
+$(BUILD)/fuzz/fuzz: $(patsubst %,tests/%.c,fuzz $(SHARED)) $(TEST_HEADERS) $(ARCHIVE)
+	@mkdir -p $(@D)
+	clang $(WARNINGS) -O1 -g -fsanitize=fuzzer,address,undefined -fno-sanitize-recover=all $(filter %.c %.a,$^) -lcrypto -o $@
+
+fuzz: setup-fuzz
+	@$(MAKE) --no-print-directory $(BUILD)/fuzz/fuzz
+	scripts/fuzz-seeds $(BUILD)/fuzz/inputs
+	$(BUILD)/fuzz/fuzz -max_total_time=$(FUZZ_SECONDS) -max_len=4096 -print_final_stats=1 -artifact_prefix=$(BUILD)/fuzz/ $(BUILD)/fuzz/inputs
+
+.PHONY: outside fuzz
