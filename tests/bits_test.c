@@ -50,7 +50,7 @@ static void published(const struct transform *t)
 
 int main(int argc, char **argv)
 {
-    begin("bits_test", argc, argv);
+    begin(argc, argv);
     for (uint16_t cipher = 1; cipher <= 2; cipher++)
         for (size_t n = HEADER; n <= 120; n += 7) sealed_here(0x0311, cipher, n);
     sealed_here(0x0300, 1, 100);

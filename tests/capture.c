@@ -185,7 +185,7 @@ int main(int argc, char **argv)
         {.dialect = 0x0302, .cipher = 1, .port = 50004, .id = 0x0302000000000004, .setup = folds, .material = ccm},
     };
     if (argc != 3 || (pcap = fopen(argv[1], "wb")) == NULL || (list = fopen(argv[2], "w")) == NULL) return 2;
-    begin("capture", 1, argv);
+    begin(1, argv);
     write_file_header();
     for (size_t i = 0; i < COUNT(sessions); i++) {
         set_up(&sessions[i]);

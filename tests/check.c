@@ -9,9 +9,9 @@ static unsigned long long seed = 20261115;
 static unsigned long checks, current;
 static uint64_t state;
 
-void begin(const char *program, int argc, char **argv)
+void begin(int argc, char **argv)
 {
-    name = program;
+    name = argv[0];
     if (argc > 1) seed = strtoull(argv[1], NULL, 0);
     begin_case(0);
 }
@@ -34,10 +34,10 @@ void fail(const char *what, unsigned long long detail)
     exit(1);
 }
 
-void begin_case(unsigned long number)
+void begin_case(unsigned long index)
 {
-    current = number;
-    state = seed + number * 0xD1342543DE82EF95u;
+    current = index;
+    state = seed + index * 0xD1342543DE82EF95u;
 }
 
 /* splitmix64 */

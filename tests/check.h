@@ -9,8 +9,8 @@
 
 #define COUNT(a) (sizeof(a) / sizeof(a)[0])
 
-/* The first argument of every test program is the seed, where there is one. */
-void begin(const char *program, int argc, char **argv);
+/* Takes the arguments of main: the first is the seed, where there is one. */
+void begin(int argc, char **argv);
 
 /* Prints the program's one line: checks, seed, processor time. Returns what main returns. */
 int finish(void);
@@ -22,7 +22,7 @@ void expect(int holds, const char *what, unsigned long long detail);
 _Noreturn void fail(const char *what, unsigned long long detail);
 
 /* The random numbers from here on follow from the seed and this number alone; a failure names it. */
-void begin_case(unsigned long number);
+void begin_case(unsigned long index);
 
 uint64_t number(void);
 uint64_t below(uint64_t limit);

@@ -54,8 +54,7 @@ static void give_tag(struct call *c, unsigned choice)
 int LLVMFuzzerInitialize(int *argc, char ***argv)
 {
     (void)argc;
-    (void)argv;
-    begin("fuzz", 0, NULL);
+    begin(1, *argv);
     return 0;
 }
 

@@ -60,7 +60,7 @@ static void stepped_outside(int number)
 int main(int argc, char **argv)
 {
     unsigned long cases = argc > 2 ? strtoul(argv[2], NULL, 0) : CASES, first = argc > 3 ? strtoul(argv[3], NULL, 0) : 0;
-    begin("guard_test", argc, argv);
+    begin(argc, argv);
     make_pages();
     signal(SIGSEGV, stepped_outside);
     signal(SIGBUS, stepped_outside);

@@ -123,7 +123,7 @@ static void counter_end(void)
 
 int main(int argc, char **argv)
 {
-    begin("lengths_test", argc, argv);
+    begin(argc, argv);
     one_by_one();
     limits();
     folds_and_materials();

@@ -172,7 +172,7 @@ static void every_key_length(enum function function)
 
 int main(int argc, char **argv)
 {
-    begin("numbers_test", argc, argv);
+    begin(argc, argv);
     for (uint16_t cipher = 1; cipher <= 2; cipher++) {
         every_set(SEAL, cipher, AT_SEAL);
         every_set(OPEN, cipher, AT_OPEN);

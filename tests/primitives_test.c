@@ -190,7 +190,7 @@ static void one_length(size_t n)
 
 int main(int argc, char **argv)
 {
-    begin("primitives_test", argc, argv);
+    begin(argc, argv);
     for (size_t n = 0; n <= 300; n++) one_length(n);
     for (unsigned long round = 1; round <= ROUNDS; round++) {
         begin_case(round);

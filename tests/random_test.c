@@ -23,7 +23,7 @@ static const struct { enum function function; uint32_t number; } answers[] = {
 int main(int argc, char **argv)
 {
     unsigned long cases = argc > 2 ? strtoul(argv[2], NULL, 0) : CASES, first = argc > 3 ? strtoul(argv[3], NULL, 0) : 0;
-    begin("random_test", argc, argv);
+    begin(argc, argv);
     for (unsigned long i = first; i < first + cases; i++) {
         begin_case(i);
         struct call c = generate();

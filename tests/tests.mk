@@ -22,7 +22,6 @@ $(BUILD)/$(1)/primitives_test: $(addprefix $(BUILD)/$(1)/,primitives_test.o chec
 endef
 $(eval $(call link,plain,))
 $(eval $(call link,sanitized,$(SANITIZE)))
-.SECONDARY:
 
 PROGRAMS = $(foreach t,primitives_test $(LIBRARY_TESTS),$(BUILD)/plain/$(t) $(BUILD)/sanitized/$(t))
 VALGRIND = valgrind --quiet --error-exitcode=1 --leak-check=full
@@ -42,8 +41,8 @@ outside: setup-test
 	scripts/archive-symbols $(ARCHIVE)
 	scripts/header-check include/smb3seal.h
 	for t in $(PROGRAMS); do $$t || exit 1; done
-	for t in vectors_test walk_test lengths_test; do $(VALGRIND) $(BUILD)/plain/$$t || exit 1; done
-	$(VALGRIND) $(BUILD)/plain/random_test 1 $(VALGRIND_CASES)
+	for t in vectors_test walk_test lengths_test "random_test 1 $(VALGRIND_CASES)"; do \
+	    printf 'valgrind '; $(VALGRIND) $(BUILD)/plain/$$t || exit 1; done
 	scripts/mutants $(BUILD)/mutants tests/mutants.c
 	scripts/tshark-check $(BUILD)/plain/capture $(BUILD)/tshark
 	rt fmt --check

@@ -50,7 +50,7 @@ static void transform(const struct transform *t)
 
 int main(int argc, char **argv)
 {
-    begin("vectors_test", argc, argv);
+    begin(argc, argv);
     for (size_t i = 0; i < COUNT(folds); begin_case(++i)) fold(&folds[i]);
     for (size_t i = 0; i < COUNT(derivations); begin_case(++i)) derive(&derivations[i]);
     for (size_t i = 0; i < COUNT(transforms); begin_case(++i)) transform(&transforms[i]);

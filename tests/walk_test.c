@@ -117,7 +117,7 @@ static void long_chain(void)
 
 int main(int argc, char **argv)
 {
-    begin("walk_test", argc, argv);
+    begin(argc, argv);
     one_header();
     two_headers();
     distances();
