@@ -39,9 +39,9 @@ struct lender {
 extern const struct lender heap;
 
 /*
- * Makes the call by the library and by the model, each on buffers of its own: one check, that the answers are the same, and all bytes
- * and numbers that were lent; and after a refusal, that they are what they were before. The library's are then in the call. Returns the
- * answer.
+ * Makes the call by the library and by the model, each on buffers of its own: one check, that the answers are the same, and all
+ * bytes and numbers that were lent; and after a refusal, that they are what they were before. The library's are then in the call.
+ * Returns the answer.
  */
 uint32_t compare(struct call *call, const struct lender *lender);
 

@@ -1,7 +1,7 @@
 /*
- * Writes a capture for tshark: four connections with the published negotiation and session setup, and then messages that the library
- * sealed under the keys that it derived. 3.1.1 with GCM and with CCM are the published sessions, in which the published sealed messages
- * are sent too; for 3.0 and 3.0.2 the dialect in the negotiate response and the session's id are replaced.
+ * Writes a capture for tshark: four connections with the published negotiation and session setup, and then messages that the
+ * library sealed under the keys that it derived. 3.1.1 with GCM and with CCM are the published sessions, in which the published
+ * sealed messages are sent too; for 3.0 and 3.0.2 the dialect in the negotiate response and the session's id are replaced.
  *
  * Usage: capture PCAP LIST. The list has a line for each session (its id as on the wire, its session key) and one for each sealed
  * message (its inner bytes), in hexadecimal.

@@ -70,7 +70,8 @@ uint32_t __wrap_smb3seal_fold_response(uint8_t *chain, size_t chain_len, const u
     return r;
 }
 
-uint32_t __real_smb3seal_seal(uint16_t, uint32_t, uint16_t, const uint8_t *, size_t, uint64_t, uint64_t *, uint8_t *, size_t, uint64_t *);
+uint32_t __real_smb3seal_seal(uint16_t, uint32_t, uint16_t, const uint8_t *, size_t, uint64_t, uint64_t *, uint8_t *, size_t,
+                              uint64_t *);
 uint32_t __wrap_smb3seal_seal(uint16_t dialect, uint32_t encryption, uint16_t cipher, const uint8_t *key, size_t key_len, uint64_t id,
                               uint64_t *counter, uint8_t *message, size_t message_len, uint64_t *headers)
 {
@@ -106,8 +107,9 @@ uint32_t __wrap_smb3seal_open(uint16_t dialect, uint32_t encryption, uint16_t ci
     if (fault("open: a byte behind the key is read")) look(key + key_len);
     uint32_t r = __real_smb3seal_open(dialect, encryption, cipher, key, key_len, id, message, message_len, headers);
     if (fault("open: a byte behind the message is written")) touch(message + message_len);
-    if (fault("open: plaintext is left after a bad tag") && r == 9) leave_plaintext(dialect, cipher, key, message, message_len);
-    if (fault("open: plaintext is left after the walk") && r > 10 && r < 17) leave_plaintext(dialect, cipher, key, message, message_len);
+    int bad_tag = r == 9 && fault("open: plaintext is left after a bad tag");
+    int behind_tag = r > 10 && r < 17 && fault("open: plaintext is left after the walk");
+    if (bad_tag || behind_tag) leave_plaintext(dialect, cipher, key, message, message_len);
     if (fault("open: 10 before 9") && r == 9 && message[36] != (uint8_t)(message_len - 52)) return 10;
     if (fault("open: 16 for 15") && r == 15) return 16;
     if (fault("open: a refusal clears the count") && r != 0) *headers = 0;

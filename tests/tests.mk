@@ -58,4 +58,12 @@ fuzz: setup-fuzz
 	scripts/fuzz-seeds $(BUILD)/fuzz/inputs
 	$(BUILD)/fuzz/fuzz -max_total_time=$(FUZZ_SECONDS) -max_len=4096 -print_final_stats=1 -artifact_prefix=$(BUILD)/fuzz/ $(BUILD)/fuzz/inputs
 
-.PHONY: outside fuzz
+# Samba's client and server through the library, on demand: installing Samba may start its service, and a server has to run as root.
+$(BUILD)/plain/reseal: $(BUILD)/plain/reseal.o $(ARCHIVE)
+	$(CC) $^ -o $@
+
+samba: setup-samba
+	@$(MAKE) --no-print-directory $(BUILD)/plain/reseal
+	scripts/samba-check $(BUILD)/plain/reseal $(BUILD)/samba
+
+.PHONY: outside fuzz samba
