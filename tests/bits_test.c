@@ -2,12 +2,11 @@
  * Every single bit of a sealed message is in a test or in the tag: changed, the message is refused, with the number of the field that
  * the bit is in, and nothing else changes.
  */
+#include <string.h>
+
 #include "check.h"
 #include "messages.h"
-
 #include "smb3_vectors.h"
-
-#include <string.h>
 
 static uint32_t number_of_byte(size_t at)
 {

@@ -23,9 +23,13 @@ static uint64_t take(size_t n)
     return value;
 }
 
-static size_t length_like(size_t right, uint64_t change)
+/* The two high bits say which length becomes another: none, the key's, the chain's, or that of the place for the keys. */
+static void choose_lengths(struct call *c, uint64_t change)
 {
-    return change < 192 ? right : change % (2 * right + 1);
+    size_t other = change & 63;
+    if (change >> 6 == 1 && c->function != DERIVE) c->key.len = other % 33;
+    if (change >> 6 == 2) c->chain.len = 32 + other;
+    if (change >> 6 == 3 && c->function == DERIVE) c->message.len = 32 + other;
 }
 
 /* The session's id is often that of the first inner header, or of the transform header: else nothing would be accepted. */
@@ -74,11 +78,11 @@ int LLVMFuzzerTestOneInput(const uint8_t *data, size_t size)
     c.counter = take(8);
     choice = (unsigned)take(1);
     c.encryption = choice != 64;
-    c.key.len = length_like(16, lengths);
-    c.chain.len = length_like(64, lengths ^ 32);
-    c.message.len = c.function == DERIVE ? length_like(64, lengths ^ 16) : left;
-    memcpy(c.message.at, input, c.function == DERIVE ? 0 : left);
-    if (c.function == DERIVE && left > 0) c.key = (struct lent){(uint8_t *)input, left};
+    if (choice & 128) c.counter = UINT64_MAX - c.counter % 3;
+    c.message.len = c.function == DERIVE ? 64 : left;
+    if (c.function == DERIVE) c.key = (struct lent){(uint8_t *)input, left};
+    else memcpy(c.message.at, input, left);
+    choose_lengths(&c, lengths);
     choose_id(&c, choice);
     if (c.function == OPEN && kind & 0x80) give_tag(&c, choice);
     compare(&c, &heap);

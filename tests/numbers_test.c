@@ -73,6 +73,21 @@ static void every_set(enum function function, uint16_t cipher, int where)
     }
 }
 
+/* P1 to P3 of document 01. */
+static void sums(uint16_t cipher)
+{
+    struct call c = plain_call(OPEN, cipher, 0);
+    expect_answer(&c, 2, "P1: 52 bytes");
+    c = plain_call(OPEN, cipher, 1);
+    c.message.at[0] = 0xFE;
+    expect_answer(&c, 4, "P2: 53 bytes beginning FE");
+    c = plain_call(OPEN, cipher, INNER);
+    put_transform(&c, 1);
+    put(c.message.at + 42, 0, 2);
+    put(c.message.at + 44, SESSION + 1, 8);
+    expect_answer(&c, 5, "P3: Flags 0 and an unknown id");
+}
+
 /* ---- deriving and folding */
 
 static void derivation_faults(void)
@@ -174,6 +189,7 @@ int main(int argc, char **argv)
 {
     begin(argc, argv);
     for (uint16_t cipher = 1; cipher <= 2; cipher++) {
+        sums(cipher);
         every_set(SEAL, cipher, AT_SEAL);
         every_set(OPEN, cipher, AT_OPEN);
         every_dialect(cipher);

@@ -37,11 +37,27 @@ static void walk(size_t n, const struct header *headers, size_t count, uint32_t 
     }
 }
 
+/* P5 to P11 of document 01. */
+static void sums(void)
+{
+    struct header h[] = {{0, 0, 0, SESSION}, {64, 4, 0, 9}};
+    walk(63, h, 1, 11, 0);
+    walk(64, h, 1, 0, 1);
+    h[0].next = 64;
+    walk(128, h, 2, 0, 2);
+    h[0].next = 65;
+    walk(128, h, 2, 15, 0);
+    h[0].next = 68;
+    walk(136, h, 2, 16, 0);
+    h[0].next = 64;
+    walk(127, h, 2, 15, 0);
+    h[0].next = 4294967288;
+    walk(128, h, 2, 15, 0);
+}
+
 static void one_header(void)
 {
     struct header h = {0, 0, 0, SESSION};
-    walk(64, &h, 1, 0, 1);
-    walk(63, &h, 1, 11, 0);
     for (unsigned bit = 0; bit < 32; bit++) {
         h.flags = (uint32_t)1 << bit;
         walk(64, &h, 1, h.flags == 4 ? 13 : 0, 1);
@@ -56,17 +72,13 @@ static void one_header(void)
 static void two_headers(void)
 {
     struct header h[] = {{0, 0, 64, SESSION}, {64, 4, 0, 9}};
-    walk(128, h, 2, 0, 2);
-    walk(127, h, 2, 15, 0);
     walk(128, h, 1, 12, 0);
     h[1] = (struct header){64, 0, 0, 9};
     walk(128, h, 2, 14, 0);
     h[1] = (struct header){64, 0, 0, SESSION};
     walk(128, h, 2, 0, 2);
-    h[1] = (struct header){68, 4, 0, 9};
-    h[0].next = 68;
-    walk(136, h, 2, 16, 0);
-    h[1].place = h[0].next = 72;
+    h[1] = (struct header){72, 4, 0, 9};
+    h[0].next = 72;
     walk(136, h, 2, 0, 2);
     h[0].next = 80;
     walk(136, h, 2, 15, 0);
@@ -118,6 +130,7 @@ static void long_chain(void)
 int main(int argc, char **argv)
 {
     begin(argc, argv);
+    sums();
     one_header();
     two_headers();
     distances();
