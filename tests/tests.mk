@@ -56,7 +56,8 @@ $(BUILD)/fuzz/fuzz: $(patsubst %,tests/%.c,fuzz $(SHARED)) $(TEST_HEADERS) $(ARC
 fuzz: setup-fuzz
 	@$(MAKE) --no-print-directory $(BUILD)/fuzz/fuzz
 	scripts/fuzz-seeds $(BUILD)/fuzz/inputs
-	$(BUILD)/fuzz/fuzz -max_total_time=$(FUZZ_SECONDS) -max_len=4096 -print_final_stats=1 -artifact_prefix=$(BUILD)/fuzz/ $(BUILD)/fuzz/inputs
+	$(BUILD)/fuzz/fuzz -max_total_time=$(FUZZ_SECONDS) -max_len=4096 -print_final_stats=1 -artifact_prefix=$(BUILD)/fuzz/ \
+	    $(BUILD)/fuzz/inputs
 
 # Samba's client and server through the library, on demand: installing Samba may start its service, and a server has to run as root.
 $(BUILD)/plain/reseal: $(BUILD)/plain/reseal.o $(ARCHIVE)
@@ -66,4 +67,11 @@ samba: setup-samba
 	@$(MAKE) --no-print-directory $(BUILD)/plain/reseal
 	scripts/samba-check $(BUILD)/plain/reseal $(BUILD)/samba
 
-.PHONY: outside fuzz samba
+# How much of the archive's code the tests execute, on demand.
+COVERAGE_TESTS = vectors_test lengths_test random_test
+coverage: setup-test
+	@$(MAKE) --no-print-directory $(COVERAGE_TESTS:%=$(BUILD)/plain/%)
+	scripts/archive-coverage $(ARCHIVE) $(BUILD)/coverage $(BUILD)/plain/vectors_test $(BUILD)/plain/lengths_test \
+	    "$(BUILD)/plain/random_test 1 $(VALGRIND_CASES)"
+
+.PHONY: outside fuzz samba coverage
