@@ -1,7 +1,8 @@
 /*
  * Writes a capture for tshark: four connections with the published negotiation and session setup, and then messages that the
  * library sealed under the keys that it derived. 3.1.1 with GCM and with CCM are the published sessions, in which the published
- * sealed messages are sent too; for 3.0 and 3.0.2 the dialect in the negotiate response and the session's id are replaced.
+ * sealed messages are sent too; for 3.0 and 3.0.2 the dialect in the negotiate response and the session's id are replaced. On 3.0.2
+ * the library is asked for cipher 2, and must seal with CCM all the same.
  *
  * Usage: capture PCAP LIST. The list has a line for each session (its id as on the wire, its session key) and one for each sealed
  * message (its inner bytes), in hexadecimal.
@@ -182,7 +183,7 @@ int main(int argc, char **argv)
         {.dialect = 0x0311, .cipher = 2, .port = 50001, .id = transforms[0].id, .setup = folds, .material = gcm},
         {.dialect = 0x0311, .cipher = 1, .port = 50002, .id = transforms[4].id, .setup = folds + SETUP_MESSAGES, .material = ccm},
         {.dialect = 0x0300, .cipher = 1, .port = 50003, .id = 0x0300000000000003, .setup = folds, .material = gcm},
-        {.dialect = 0x0302, .cipher = 1, .port = 50004, .id = 0x0302000000000004, .setup = folds, .material = ccm},
+        {.dialect = 0x0302, .cipher = 2, .port = 50004, .id = 0x0302000000000004, .setup = folds, .material = ccm},
     };
     if (argc != 3 || (pcap = fopen(argv[1], "wb")) == NULL || (list = fopen(argv[2], "w")) == NULL) return 2;
     begin(1, argv);
