@@ -53,24 +53,31 @@ static void put_outer_fault(struct call *c, uint32_t number)
     }
 }
 
+/* The faults whose bits are in the set, all at once: the first of them is the answer. Inside the message the first is put last. */
+static void one_set(enum function function, uint16_t cipher, const uint32_t *numbers, size_t count, uint32_t set)
+{
+    struct call c = plain_call(function, cipher, INNER);
+    uint32_t first = 0;
+    begin_case(set);
+    put_transform(&c, set);
+    for (size_t i = count; i-- > 0;) {
+        if ((set >> i & 1) == 0) continue;
+        put_inner_fault(&c, numbers[i]);
+        first = numbers[i];
+    }
+    if (function == OPEN) forge(&c);
+    for (size_t i = 0; i < count; i++)
+        if (set >> i & 1) put_outer_fault(&c, numbers[i]);
+    expect_answer(&c, first, "a set of faults");
+}
+
 static void every_set(enum function function, uint16_t cipher, int where)
 {
-    uint32_t present[COUNT(faults)];
+    uint32_t numbers[COUNT(faults)];
     size_t count = 0;
     for (size_t i = 0; i < COUNT(faults); i++)
-        if (faults[i].where & where) present[count++] = faults[i].number;
-    for (uint32_t set = 0; set < (uint32_t)1 << count; set++) {
-        struct call c = plain_call(function, cipher, INNER);
-        uint32_t first = 0;
-        begin_case(set);
-        put_transform(&c, set);
-        for (size_t i = count; i-- > 0;)
-            if (set >> i & 1) put_inner_fault(&c, first = present[i]);
-        if (function == OPEN) forge(&c);
-        for (size_t i = 0; i < count; i++)
-            if (set >> i & 1) put_outer_fault(&c, present[i]);
-        expect_answer(&c, first, "a set of faults");
-    }
+        if (faults[i].where & where) numbers[count++] = faults[i].number;
+    for (uint32_t set = 0; set < (uint32_t)1 << count; set++) one_set(function, cipher, numbers, count, set);
 }
 
 /* P1 to P3 of document 01. */

@@ -90,10 +90,11 @@ static void two_headers(void)
 static void distances(void)
 {
     enum { INNER = 256 };
-    for (uint64_t d = 1; d <= INNER + 8; d++) {
-        struct header h[] = {{0, 0, (uint32_t)d, SESSION}, {d < HEADER ? HEADER : d > INNER - HEADER ? INNER - HEADER : d, 4, 0, 9}};
+    for (uint32_t d = 1; d <= INNER + 8; d++) {
+        int inside = d >= HEADER && d + HEADER <= INNER;
+        struct header h[] = {{0, 0, d, SESSION}, {inside ? d : HEADER, 4, 0, 9}};
         begin_case(d);
-        walk(INNER, h, 2, d < HEADER || d + HEADER > INNER ? 15 : d % 8 != 0 ? 16 : 0, 2);
+        walk(INNER, h, 2, !inside ? 15 : d % 8 != 0 ? 16 : 0, 2);
     }
     for (uint64_t d = UINT32_MAX - 300; d <= UINT32_MAX; d++) {
         struct header h[] = {{0, 0, (uint32_t)d, SESSION}, {HEADER, 4, 0, 9}};
