@@ -82,19 +82,32 @@ static uint32_t perform(const struct functions *by, const struct call *c, struct
     }
 }
 
-static int same(const uint8_t *a, const uint8_t *b, size_t n)
+static _Noreturn void wrong(const struct call *c, uint32_t answer, const char *what, unsigned long long detail)
 {
-    return n == 0 || memcmp(a, b, n) == 0;
+    static const char *const names[] = {"derive", "fold", "fold_response", "seal", "open"};
+    fprintf(stderr, "smb3seal_%s, lent %zu bytes, answers %u\n", names[c->function], c->message.len, answer);
+    fail(what, detail);
+}
+
+/* The first byte that differs, or n. */
+static size_t difference(const uint8_t *a, const uint8_t *b, size_t n)
+{
+    size_t i = 0;
+    if (n == 0 || memcmp(a, b, n) == 0) return n;
+    while (a[i] == b[i]) i++;
+    return i;
 }
 
 static void need_same(const struct call *c, const struct outcome *a, const struct outcome *b)
 {
-    if (!same(a->key, b->key, c->key.len)) fail("the key or key material differs", a->answer);
-    if (!same(a->chain, b->chain, c->chain.len)) fail("the chain differs", a->answer);
-    if (!same(a->message, b->message, c->message.len)) fail("the message or the four keys differ", a->answer);
-    if (*a->counter != *b->counter) fail("the counter differs", *a->counter);
-    if (*a->headers != *b->headers) fail("the number of headers differs", *a->headers);
-    if (*a->folded != *b->folded) fail("the folded mark differs", *a->folded);
+    size_t key = difference(a->key, b->key, c->key.len), chain = difference(a->chain, b->chain, c->chain.len);
+    size_t message = difference(a->message, b->message, c->message.len);
+    if (key != c->key.len) wrong(c, a->answer, "the key or key material differs at byte", key);
+    if (chain != c->chain.len) wrong(c, a->answer, "the chain differs at byte", chain);
+    if (message != c->message.len) wrong(c, a->answer, "the message or the four keys differ at byte", message);
+    if (*a->counter != *b->counter) wrong(c, a->answer, "the counter differs", *a->counter);
+    if (*a->headers != *b->headers) wrong(c, a->answer, "the number of headers differs", *a->headers);
+    if (*a->folded != *b->folded) wrong(c, a->answer, "the folded mark differs", *a->folded);
 }
 
 uint32_t compare(struct call *c, const struct lender *lender)
@@ -102,14 +115,13 @@ uint32_t compare(struct call *c, const struct lender *lender)
     struct outcome ours = lend(c, lender), theirs = lend(c, &heap);
     ours.answer = perform(&library, c, &ours);
     theirs.answer = perform(&model, c, &theirs);
-    if (ours.answer != theirs.answer)
-        fprintf(stderr, "function %d: the library answers %u, the model %u\n", c->function, ours.answer, theirs.answer);
-    expect(ours.answer == theirs.answer, "the answers differ; function", c->function);
+    if (ours.answer != theirs.answer) wrong(c, ours.answer, "the model answers", theirs.answer);
     need_same(c, &ours, &theirs);
     if (ours.answer != 0) {
         struct outcome before = {0, c->key.at, c->chain.at, c->message.at, &c->counter, &c->headers, &c->folded};
         need_same(c, &ours, &before);
     }
+    count_check();
     if (c->chain.len > 0) memcpy(c->chain.at, ours.chain, c->chain.len);
     if (c->message.len > 0) memcpy(c->message.at, ours.message, c->message.len);
     c->counter = *ours.counter;
@@ -123,6 +135,6 @@ uint32_t compare(struct call *c, const struct lender *lender)
 void expect_answer(struct call *call, uint32_t number, const char *what)
 {
     uint32_t r = compare(call, &heap);
-    if (r != number) fprintf(stderr, "answered %u, not %u\n", r, number);
-    expect(r == number, what, number);
+    if (r != number) wrong(call, r, what, number);
+    count_check();
 }

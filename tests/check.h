@@ -18,6 +18,9 @@ int finish(void);
 /* Counts a check; one that does not hold fails. */
 void expect(int holds, const char *what, unsigned long long detail);
 
+/* Counts a check that was made otherwise, and holds. */
+void count_check(void);
+
 /* Prints what is wrong, with the seed and the case, and ends the program. */
 _Noreturn void fail(const char *what, unsigned long long detail);
 
