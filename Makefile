@@ -4,8 +4,8 @@
 # make packaging   headers, symbols, shared object, install and uninstall, checked
 # make rust        the tests of the Rust wrapper
 # make test        the whole gate: outside tests, then rt ci
-# make bench       sealing, opening, derivation and folding beside other libraries
-# make fuzz        a bounded run of the fuzzer
+# make bench       sealing, opening, derivation and folding beside other libraries; bench-docs: and the figures into docs/
+# make fuzz, samba, coverage   on demand: the fuzzer for a minute; Samba through the library; what the tests execute
 # make install, uninstall (PREFIX, DESTDIR), clean
 
 CFLAGS ?= -O2 -g

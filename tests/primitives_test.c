@@ -1,6 +1,6 @@
 /*
- * The primitives against OpenSSL: every length up to 300 one by one, then random ones, with a fixed seed. Damaged tags, texts and
- * associated data are refused and change nothing; buffers of a wrong length get 40 and change nothing.
+ * The primitives against OpenSSL: every length up to 300 one by one, then random ones. Damaged tags, texts and associated data are
+ * refused and change nothing; buffers of a wrong length get 40 and change nothing.
  *
  * Usage: primitives_test [SEED]
  */
@@ -9,51 +9,26 @@
 #include <openssl/hmac.h>
 #include <openssl/kdf.h>
 #include <openssl/params.h>
-#include <stdio.h>
-#include <stdlib.h>
 #include <string.h>
 
+#include "check.h"
+#include "openssl_aead.h"
 #include "primitives.h"
 
 enum { LONGEST = 20000, ROUNDS = 400 };
 
-static uint64_t state;
-static unsigned long checks;
-
-static void expect(int holds, const char *what, size_t n)
-{
-    checks++;
-    if (!holds) {
-        fprintf(stderr, "primitives_test: %s is wrong at length %zu\n", what, n);
-        exit(1);
-    }
-}
-
-/* xorshift64* */
-static uint32_t number(void)
-{
-    state ^= state >> 12;
-    state ^= state << 25;
-    state ^= state >> 27;
-    return (uint32_t)((state * 2685821657736338717u) >> 32);
-}
-
-static void fill(uint8_t *at, size_t n)
-{
-    for (size_t i = 0; i < n; i++) at[i] = (uint8_t)number();
-}
+/* ---- hashes, codes, derivation */
 
 static void hashes(size_t n)
 {
     static uint8_t message[LONGEST];
-    uint8_t ours[64], theirs[64], before[65];
+    uint8_t ours[64], theirs[64], before[65], place[65];
     fill(message, n);
     expect(primitives_sha256(message, n, ours, 32) == 0 && EVP_Digest(message, n, theirs, NULL, EVP_sha256(), NULL) == 1 &&
                memcmp(ours, theirs, 32) == 0, "SHA-256", n);
     expect(primitives_sha512(message, n, ours, 64) == 0 && EVP_Digest(message, n, theirs, NULL, EVP_sha512(), NULL) == 1 &&
                memcmp(ours, theirs, 64) == 0, "SHA-512", n);
     fill(before, 65);
-    uint8_t place[65];
     memcpy(place, before, 65);
     expect(primitives_sha256(message, n, place, 31) == 40 && primitives_sha512(message, n, place, 65) == 40 &&
                memcmp(place, before, 65) == 0, "a digest of the wrong length", n);
@@ -102,25 +77,7 @@ static void derivations(size_t key_len, size_t label_len, size_t context_len)
            "SP 800-108", context_len);
 }
 
-/* Ciphertext and tag by OpenSSL; a nonce of 11 bytes means CCM, one of 12 GCM. */
-static int openssl_seal(const uint8_t *key, const uint8_t *nonce, int nonce_len, const uint8_t *aad, size_t aad_len,
-                        uint8_t *text, size_t n, uint8_t *tag)
-{
-    EVP_CIPHER_CTX *c = EVP_CIPHER_CTX_new();
-    const EVP_CIPHER *cipher = nonce_len == 11 ? EVP_aes_128_ccm() : EVP_aes_128_gcm();
-    static const uint8_t none[1];
-    int out = 0, ok = EVP_EncryptInit_ex(c, cipher, NULL, NULL, NULL);
-    ok &= EVP_CIPHER_CTX_ctrl(c, EVP_CTRL_AEAD_SET_IVLEN, nonce_len, NULL);
-    if (nonce_len == 11) ok &= EVP_CIPHER_CTX_ctrl(c, EVP_CTRL_AEAD_SET_TAG, 16, NULL);
-    ok &= EVP_EncryptInit_ex(c, NULL, NULL, key, nonce);
-    if (nonce_len == 11) ok &= EVP_EncryptUpdate(c, NULL, &out, NULL, (int)n);
-    if (aad_len > 0) ok &= EVP_EncryptUpdate(c, NULL, &out, aad, (int)aad_len);
-    ok &= EVP_EncryptUpdate(c, text, &out, n > 0 ? text : none, (int)n);
-    ok &= EVP_EncryptFinal_ex(c, text + out, &out);
-    ok &= EVP_CIPHER_CTX_ctrl(c, EVP_CTRL_AEAD_GET_TAG, 16, tag);
-    EVP_CIPHER_CTX_free(c);
-    return ok;
-}
+/* ---- counter mode */
 
 static void counter_mode(size_t n)
 {
@@ -141,69 +98,84 @@ static void counter_mode(size_t n)
     expect(ok == 1 && primitives_ctr(key, 16, counter, 12, first, ours, n) == 0 && memcmp(ours, theirs, n) == 0, "counter mode", n);
 }
 
-static uint32_t seal(size_t nonce_len, const uint8_t *key, const uint8_t *nonce, const uint8_t *aad, size_t aad_len, uint8_t *text,
-                     size_t n, uint8_t *tag, size_t tag_len)
+/* ---- authenticated encryption: CCM where the nonce has 11 bytes, GCM where it has 12 */
+
+static uint32_t seal(const struct aead *how, uint8_t *text, size_t n, uint8_t *tag, size_t tag_len)
 {
-    return (nonce_len == 11 ? primitives_ccm_seal : primitives_gcm_seal)(key, 16, nonce, nonce_len, aad, aad_len, text, n, tag,
-                                                                        tag_len);
+    return (how->nonce_len == 11 ? primitives_ccm_seal : primitives_gcm_seal)(how->key, 16, how->nonce, (size_t)how->nonce_len,
+                                                                             how->aad, how->aad_len, text, n, tag, tag_len);
 }
 
-static uint32_t unseal(size_t nonce_len, const uint8_t *key, const uint8_t *nonce, const uint8_t *aad, size_t aad_len,
-                       const uint8_t *tag, size_t tag_len, uint8_t *text, size_t n, uint32_t *right)
+static uint32_t unseal(const struct aead *how, const uint8_t *tag, size_t tag_len, uint8_t *text, size_t n, uint32_t *right)
 {
-    return (nonce_len == 11 ? primitives_ccm_open : primitives_gcm_open)(key, 16, nonce, nonce_len, aad, aad_len, tag, tag_len,
-                                                                        text, n, right);
+    return (how->nonce_len == 11 ? primitives_ccm_open : primitives_gcm_open)(how->key, 16, how->nonce, (size_t)how->nonce_len,
+                                                                             how->aad, how->aad_len, tag, tag_len, text, n, right);
 }
 
-static void sealing(size_t nonce_len, size_t aad_len, size_t n)
+/* The text is sealed; with this tag and this data it is not opened, and stays as it is. */
+static void refused(const struct aead *how, const uint8_t *tag, const uint8_t *sealed, size_t n, const char *what)
 {
-    static uint8_t plain[LONGEST], ours[LONGEST], theirs[LONGEST], sealed[LONGEST];
-    uint8_t key[16], nonce[12], aad[100], tag[16], their_tag[16], wrong[16];
+    static uint8_t text[LONGEST];
+    uint32_t right = 7;
+    memcpy(text, sealed, n);
+    expect(unseal(how, tag, 16, text, n, &right) == 0 && right == 0 && memcmp(text, sealed, n) == 0, what, n);
+}
+
+/* A bit of the tag, of the text or of the associated data is changed. */
+static void damaged(const struct aead *how, const uint8_t *tag, uint8_t *sealed, size_t n)
+{
+    uint8_t wrong[16], aad[100];
+    struct aead other = *how;
+    memcpy(wrong, tag, 16);
+    wrong[below(16)] ^= (uint8_t)(1 << below(8));
+    refused(how, wrong, sealed, n, "a wrong tag");
+    if (n > 0) {
+        size_t at = below(n);
+        sealed[at] ^= 8;
+        refused(how, tag, sealed, n, "a changed text");
+        sealed[at] ^= 8;
+    }
+    if (how->aad_len == 0) return;
+    memcpy(aad, how->aad, how->aad_len);
+    aad[below(how->aad_len)] ^= 1;
+    other.aad = aad;
+    refused(&other, tag, sealed, n, "changed associated data");
+}
+
+static void wrong_lengths(const struct aead *how, const uint8_t *tag, uint8_t *text, size_t n)
+{
+    static uint8_t sealed[LONGEST];
+    uint8_t place[16];
+    uint32_t right = 7;
+    struct aead other = *how;
+    other.nonce_len = how->nonce_len == 11 ? 10 : 13;
+    memcpy(sealed, text, n);
+    memcpy(place, tag, 16);
+    expect(seal(how, text, n, place, 15) == 40 && seal(&other, text, n, place, 16) == 40, "sealing with a wrong length", n);
+    expect(unseal(how, tag, 15, text, n, &right) == 40 && unseal(&other, tag, 16, text, n, &right) == 40,
+           "opening with a wrong length", n);
+    expect(right == 7 && memcmp(text, sealed, n) == 0 && memcmp(place, tag, 16) == 0, "nothing changed", n);
+}
+
+static void sealing(int nonce_len, size_t aad_len, size_t n)
+{
+    static uint8_t plain[LONGEST], ours[LONGEST], theirs[LONGEST];
+    uint8_t key[16], nonce[13], aad[100], tag[16], their_tag[16];
+    struct aead how = {key, nonce, nonce_len, aad, aad_len};
     const char *name = nonce_len == 11 ? "CCM" : "GCM";
     uint32_t right = 7;
     fill(key, 16);
-    fill(nonce, 12);
+    fill(nonce, 13);
     fill(aad, aad_len);
     fill(plain, n);
     memcpy(ours, plain, n);
     memcpy(theirs, plain, n);
-    expect(seal(nonce_len, key, nonce, aad, aad_len, ours, n, tag, 16) == 0, name, n);
-    expect(openssl_seal(key, nonce, (int)nonce_len, aad, aad_len, theirs, n, their_tag), "OpenSSL", n);
+    expect(seal(&how, ours, n, tag, 16) == 0, name, n);
+    openssl_seal(&how, theirs, n, their_tag);
     expect(memcmp(ours, theirs, n) == 0 && memcmp(tag, their_tag, 16) == 0, name, n);
-
-    /* a bit of the tag, of the text or of the associated data is changed */
-    memcpy(sealed, ours, n);
-    memcpy(wrong, tag, 16);
-    wrong[number() % 16] ^= (uint8_t)(1 << number() % 8);
-    expect(unseal(nonce_len, key, nonce, aad, aad_len, wrong, 16, ours, n, &right) == 0 && right == 0 &&
-               memcmp(ours, sealed, n) == 0, "a wrong tag", n);
-    if (n > 0) {
-        ours[number() % n] ^= (uint8_t)(1 << number() % 8);
-        memcpy(sealed, ours, n);
-        right = 7;
-        expect(unseal(nonce_len, key, nonce, aad, aad_len, tag, 16, ours, n, &right) == 0 && right == 0 &&
-                   memcmp(ours, sealed, n) == 0, "a changed text", n);
-        memcpy(ours, theirs, n);
-        memcpy(sealed, ours, n);
-    }
-    if (aad_len > 0) {
-        size_t at = number() % aad_len;
-        aad[at] ^= 1;
-        right = 7;
-        expect(unseal(nonce_len, key, nonce, aad, aad_len, tag, 16, ours, n, &right) == 0 && right == 0 &&
-                   memcmp(ours, sealed, n) == 0, "changed associated data", n);
-        aad[at] ^= 1;
-    }
-
-    /* buffers of the wrong length */
-    right = 7;
-    memcpy(wrong, tag, 16);
-    expect(seal(nonce_len - 1, key, nonce, aad, aad_len, ours, n, wrong, 15) == 40 &&
-               unseal(nonce_len, key, nonce, aad, aad_len, tag, 15, ours, n, &right) == 40 && right == 7 &&
-               memcmp(ours, sealed, n) == 0 && memcmp(wrong, tag, 16) == 0, "a wrong length", n);
-
-    expect(unseal(nonce_len, key, nonce, aad, aad_len, tag, 16, ours, n, &right) == 0 && right == 1 && memcmp(ours, plain, n) == 0,
-           "opening", n);
+    damaged(&how, tag, ours, n);
+    wrong_lengths(&how, tag, ours, n);
+    expect(unseal(&how, tag, 16, ours, n, &right) == 0 && right == 1 && memcmp(ours, plain, n) == 0, "opening", n);
 }
 
 static void one_length(size_t n)
@@ -218,11 +190,11 @@ static void one_length(size_t n)
 
 int main(int argc, char **argv)
 {
-    state = argc == 2 ? strtoull(argv[1], NULL, 0) : 20261115;
-    printf("primitives_test: seed %llu\n", (unsigned long long)state);
-    if (state == 0) return 1;
+    begin(argc, argv);
     for (size_t n = 0; n <= 300; n++) one_length(n);
-    for (int round = 0; round < ROUNDS; round++) one_length(number() % LONGEST);
-    printf("primitives_test: %lu checks hold\n", checks);
-    return 0;
+    for (unsigned long round = 1; round <= ROUNDS; round++) {
+        begin_case(round);
+        one_length(below(LONGEST));
+    }
+    return finish();
 }

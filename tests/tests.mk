@@ -1,21 +1,78 @@
 # The outside tests: what `make test` runs before rt ci. `outside` is their list.
 
-$(BUILD)/smb3seal_test $(BUILD)/smb3seal_test_sanitized: tests/smb3seal_test.c include/smb3seal.h $(BUILD)/smb3_vectors.h $(ARCHIVE)
-	$(CC) $(WARNINGS) $(CFLAGS) $(if $(findstring sanitized,$@),$(SANITIZE)) -I$(BUILD) $< $(ARCHIVE) -lcrypto -o $@
+TEST_HEADERS = $(wildcard tests/*.h) include/smb3seal.h $(BUILD)/smb3_vectors.h
+SHARED = check openssl_aead model call messages generate
+LIBRARY_TESTS = vectors_test numbers_test lengths_test walk_test bits_test random_test guard_test
 
-$(BUILD)/primitives_test $(BUILD)/primitives_test_sanitized: tests/primitives_test.c tests/primitives.h $(PRIMITIVES)
-	@mkdir -p $(BUILD)
-	$(CC) $(WARNINGS) $(CFLAGS) $(if $(findstring sanitized,$@),$(SANITIZE)) $< $(PRIMITIVES) -lcrypto -o $@
+# Each program twice: as it is, and with the sanitizers.
+$(BUILD)/plain/%.o: tests/%.c $(TEST_HEADERS)
+	@mkdir -p $(@D)
+	$(CC) $(WARNINGS) $(CFLAGS) -I$(BUILD) -c $< -o $@
 
-TESTS = $(BUILD)/primitives_test $(BUILD)/primitives_test_sanitized $(BUILD)/smb3seal_test $(BUILD)/smb3seal_test_sanitized
+$(BUILD)/sanitized/%.o: tests/%.c $(TEST_HEADERS)
+	@mkdir -p $(@D)
+	$(CC) $(WARNINGS) $(CFLAGS) $(SANITIZE) -I$(BUILD) -c $< -o $@
+
+define link
+$(patsubst %,$(BUILD)/$(1)/%,$(LIBRARY_TESTS) capture): $(BUILD)/$(1)/%: $(BUILD)/$(1)/%.o $(SHARED:%=$(BUILD)/$(1)/%.o) $(ARCHIVE)
+	$(CC) $(2) $$^ -lcrypto -o $$@
+
+$(BUILD)/$(1)/primitives_test: $(addprefix $(BUILD)/$(1)/,primitives_test.o check.o openssl_aead.o) $(PRIMITIVES)
+	$(CC) $(2) $$^ -lcrypto -o $$@
+endef
+$(eval $(call link,plain,))
+$(eval $(call link,sanitized,$(SANITIZE)))
+
+PROGRAMS = $(foreach t,primitives_test $(LIBRARY_TESTS),$(BUILD)/plain/$(t) $(BUILD)/sanitized/$(t))
+VALGRIND = valgrind --quiet --error-exitcode=1 --leak-check=full
+VALGRIND_CASES = 10000
+
+# Each program once more, with a library that can be made wrong.
+FIVE = derive fold fold_response seal open
+MUTANTS = $(LIBRARY_TESTS:%=$(BUILD)/mutants/%)
+$(MUTANTS): $(BUILD)/mutants/%: $(BUILD)/plain/%.o $(SHARED:%=$(BUILD)/plain/%.o) $(BUILD)/plain/mutants.o $(ARCHIVE)
+	@mkdir -p $(@D)
+	$(CC) $(FIVE:%=-Wl,--wrap=smb3seal_%) $^ -lcrypto -o $@
 
 outside: setup-test
-	@$(MAKE) --no-print-directory $(TESTS)
+	@$(MAKE) --no-print-directory $(PROGRAMS) $(MUTANTS) $(BUILD)/plain/capture
 	scripts/vectors --check
+	scripts/docs-check
+	scripts/crates-picture --check
 	scripts/archive-symbols $(PRIMITIVES)
-	scripts/archive-symbols $(ARCHIVE)
-	scripts/header-check include/smb3seal.h
-	for t in $(TESTS); do $$t || exit 1; done
+	@$(MAKE) --no-print-directory examples packaging rust
+	for t in $(PROGRAMS); do $$t || exit 1; done
+	for t in vectors_test walk_test lengths_test "random_test 1 $(VALGRIND_CASES)"; do \
+	    printf 'valgrind '; $(VALGRIND) $(BUILD)/plain/$$t || exit 1; done
+	scripts/mutants $(BUILD)/mutants tests/mutants.c
+	scripts/tshark-check $(BUILD)/plain/capture $(BUILD)/tshark
 	rt fmt --check
 
-.PHONY: outside
+# A bounded run of the fuzzer, on demand. What it finds goes to $(BUILD)/fuzz; the inputs that it keeps, to $(BUILD)/fuzz/inputs.
+FUZZ_SECONDS ?= 60
+$(BUILD)/fuzz/fuzz: $(patsubst %,tests/%.c,fuzz $(SHARED)) $(TEST_HEADERS) $(ARCHIVE)
+	@mkdir -p $(@D)
+	clang $(WARNINGS) -O1 -g -fsanitize=fuzzer,address,undefined -fno-sanitize-recover=all $(filter %.c %.a,$^) -lcrypto -o $@
+
+fuzz: setup-fuzz
+	@$(MAKE) --no-print-directory $(BUILD)/fuzz/fuzz
+	scripts/fuzz-seeds $(BUILD)/fuzz/inputs
+	$(BUILD)/fuzz/fuzz -max_total_time=$(FUZZ_SECONDS) -max_len=4096 -print_final_stats=1 -artifact_prefix=$(BUILD)/fuzz/ \
+	    $(BUILD)/fuzz/inputs
+
+# Samba's client and server through the library, on demand: installing Samba may start its service, and a server has to run as root.
+$(BUILD)/plain/reseal: $(BUILD)/plain/reseal.o $(ARCHIVE)
+	$(CC) $^ -o $@
+
+samba: setup-samba
+	@$(MAKE) --no-print-directory $(BUILD)/plain/reseal
+	scripts/samba-check $(BUILD)/plain/reseal $(BUILD)/samba
+
+# How much of the archive's code the tests execute, on demand.
+COVERAGE_TESTS = vectors_test lengths_test random_test
+coverage: setup-test
+	@$(MAKE) --no-print-directory $(COVERAGE_TESTS:%=$(BUILD)/plain/%)
+	scripts/archive-coverage $(ARCHIVE) $(BUILD)/coverage $(BUILD)/plain/vectors_test $(BUILD)/plain/lengths_test \
+	    "$(BUILD)/plain/random_test 1 $(VALGRIND_CASES)"
+
+.PHONY: outside fuzz samba coverage

@@ -1,0 +1,20 @@
+/*
+ * The rules of document 01 a second time, on top of OpenSSL: written from the papers, and sharing nothing with the library but this
+ * shape of the five functions. include/smb3seal.h says what they take.
+ */
+#ifndef MODEL_H
+#define MODEL_H
+
+#include <stddef.h>
+#include <stdint.h>
+
+uint32_t model_derive(uint16_t dialect, const uint8_t *material, size_t material_len, const uint8_t *chain, size_t chain_len,
+                      uint8_t *keys, size_t keys_len);
+uint32_t model_fold(uint8_t *chain, size_t chain_len, const uint8_t *message, size_t message_len);
+uint32_t model_fold_response(uint8_t *chain, size_t chain_len, const uint8_t *message, size_t message_len, uint32_t *folded);
+uint32_t model_seal(uint16_t dialect, uint32_t encryption, uint16_t cipher, const uint8_t *key, size_t key_len, uint64_t session_id,
+                    uint64_t *counter, uint8_t *message, size_t message_len, uint64_t *headers);
+uint32_t model_open(uint16_t dialect, uint32_t encryption, uint16_t cipher, const uint8_t *key, size_t key_len, uint64_t session_id,
+                    uint8_t *message, size_t message_len, uint64_t *headers);
+
+#endif

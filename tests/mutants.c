@@ -1,0 +1,118 @@
+/*
+ * Wrong libraries, to see that the tests notice them. Linked with --wrap, so that each call of the library comes here first; the
+ * environment variable MUTANT names the one fault to make. scripts/mutants runs the tests for each.
+ */
+#include <stdlib.h>
+#include <string.h>
+
+#include "../include/smb3seal.h"
+#include "openssl_aead.h"
+
+static int fault(const char *name)
+{
+    const char *chosen = getenv("MUTANT");
+    return chosen != NULL && strcmp(chosen, name) == 0;
+}
+
+/* A byte is read and written again: only where that is not allowed can it be noticed. */
+static void touch(const uint8_t *at)
+{
+    volatile uint8_t *byte = (volatile uint8_t *)at;
+    *byte = *byte;
+}
+
+static uint8_t look(const uint8_t *at)
+{
+    return *(const volatile uint8_t *)at;
+}
+
+uint32_t __real_smb3seal_derive(uint16_t, const uint8_t *, size_t, const uint8_t *, size_t, uint8_t *, size_t);
+uint32_t __wrap_smb3seal_derive(uint16_t dialect, const uint8_t *material, size_t material_len, const uint8_t *chain,
+                                size_t chain_len, uint8_t *keys, size_t keys_len)
+{
+    uint8_t swap[16];
+    if (fault("derive: the place's length is not tested") && keys_len > 64) keys_len = 64;
+    if (fault("derive: 19 before 18") && chain_len == 64 && keys_len == 64 && material_len == 0) return 19;
+    if (fault("derive: material is taken as 32 bits long")) material_len = (uint32_t)material_len;
+    if (fault("derive: a byte before the chain is read")) look(chain - 1);
+    if (fault("derive: the chain is written")) touch(chain);
+    uint32_t r = __real_smb3seal_derive(dialect, material, material_len, chain, chain_len, keys, keys_len);
+    if (r != 0) return r;
+    if (fault("derive: a wrong bit")) keys[63] ^= 1;
+    if (fault("derive: 17 bytes of material count") && material_len > 16) keys[0] ^= material[16];
+    if (fault("derive: the cipher keys in the other order")) {
+        memcpy(swap, keys + 32, 16);
+        memcpy(keys + 32, keys + 48, 16);
+        memcpy(keys + 48, swap, 16);
+    }
+    return r;
+}
+
+uint32_t __real_smb3seal_fold(uint8_t *, size_t, const uint8_t *, size_t);
+uint32_t __wrap_smb3seal_fold(uint8_t *chain, size_t chain_len, const uint8_t *message, size_t message_len)
+{
+    if (fault("fold: the last byte is left out") && message_len > 64) message_len--;
+    if (fault("fold: 1,048,576 bytes are refused") && message_len == 1048576) return 23;
+    if (fault("fold: a byte behind the message is read")) look(message + message_len);
+    return __real_smb3seal_fold(chain, chain_len, message, message_len);
+}
+
+uint32_t __real_smb3seal_fold_response(uint8_t *, size_t, const uint8_t *, size_t, uint32_t *);
+uint32_t __wrap_smb3seal_fold_response(uint8_t *chain, size_t chain_len, const uint8_t *message, size_t message_len, uint32_t *folded)
+{
+    uint32_t before = *folded, r = __real_smb3seal_fold_response(chain, chain_len, message, message_len, folded);
+    if (fault("fold_response: every status is folded") && r == 0 && *folded == 0) {
+        *folded = 1;
+        return __real_smb3seal_fold(chain, chain_len, message, message_len);
+    }
+    if (fault("fold_response: the mark is left as it was")) *folded = before;
+    if (fault("fold_response: a refusal clears the mark") && r != 0) *folded = 0;
+    return r;
+}
+
+uint32_t __real_smb3seal_seal(uint16_t, uint32_t, uint16_t, const uint8_t *, size_t, uint64_t, uint64_t *, uint8_t *, size_t,
+                              uint64_t *);
+uint32_t __wrap_smb3seal_seal(uint16_t dialect, uint32_t encryption, uint16_t cipher, const uint8_t *key, size_t key_len, uint64_t id,
+                              uint64_t *counter, uint8_t *message, size_t message_len, uint64_t *headers)
+{
+    if (fault("seal: GCM below 3.1.1") && dialect < 0x0311 && cipher == 2) dialect = 0x0311;
+    if (fault("seal: 17 is answered one seal too early") && *counter == UINT64_MAX - 1 && key_len == 16) return 17;
+    if (fault("seal: the message is taken as 32 bits long")) message_len = (uint32_t)message_len;
+    if (fault("seal: a byte before the message is read")) look(message - 1);
+    uint32_t r = __real_smb3seal_seal(dialect, encryption, cipher, key, key_len, id, counter, message, message_len, headers);
+    if (fault("seal: a refusal clears the room") && r != 0 && message_len >= 52) memset(message, 0, 52);
+    if (r != 0) return r;
+    if (fault("seal: the counter stays")) *counter -= 1;
+    if (fault("seal: the count is always 1")) *headers = 1;
+    if (fault("seal: Reserved is not zero")) message[40] = 1;
+    if (fault("seal: a wrong bit of the tag")) message[19] ^= 0x80;
+    return r;
+}
+
+/* What a library that decrypts in place and forgets about it leaves behind. */
+static void leave_plaintext(uint16_t dialect, uint16_t cipher, const uint8_t *key, uint8_t *message, size_t message_len)
+{
+    struct aead how = {key, message + 20, dialect == 0x0311 && cipher == 2 ? 12 : 11, message + 20, 32};
+    openssl_open(&how, message + 52, message_len - 52, message + 4);
+}
+
+uint32_t __real_smb3seal_open(uint16_t, uint32_t, uint16_t, const uint8_t *, size_t, uint64_t, uint8_t *, size_t, uint64_t *);
+uint32_t __wrap_smb3seal_open(uint16_t dialect, uint32_t encryption, uint16_t cipher, const uint8_t *key, size_t key_len, uint64_t id,
+                              uint8_t *message, size_t message_len, uint64_t *headers)
+{
+    if (fault("open: does nothing")) return 0;
+    if (fault("open: refuses everything")) return 9;
+    if (fault("open: Reserved is not in the tag") && message_len > 52) message[40] = message[41] = 0;
+    if (fault("open: the key is written")) touch(key);
+    if (fault("open: a byte behind the key is read")) look(key + key_len);
+    uint32_t r = __real_smb3seal_open(dialect, encryption, cipher, key, key_len, id, message, message_len, headers);
+    if (fault("open: a byte behind the message is written")) touch(message + message_len);
+    int bad_tag = r == 9 && fault("open: plaintext is left after a bad tag");
+    int behind_tag = r > 10 && r < 17 && fault("open: plaintext is left after the walk");
+    if (bad_tag || behind_tag) leave_plaintext(dialect, cipher, key, message, message_len);
+    if (fault("open: 10 before 9") && r == 9 && message[36] != (uint8_t)(message_len - 52)) return 10;
+    if (fault("open: 16 for 15") && r == 15) return 16;
+    if (fault("open: a refusal clears the count") && r != 0) *headers = 0;
+    if (fault("open: the header is cleared") && r == 0) memset(message, 0, 52);
+    return r;
+}

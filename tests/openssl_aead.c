@@ -1,0 +1,50 @@
+#include "openssl_aead.h"
+
+#include <openssl/evp.h>
+#include <stdio.h>
+#include <stdlib.h>
+
+static const uint8_t nothing[1];
+
+static void need(int ok, const char *what)
+{
+    if (ok) return;
+    fprintf(stderr, "OpenSSL cannot %s\n", what);
+    abort();
+}
+
+/* The context up to the text: cipher, lengths of nonce and tag, key, nonce, length of the text (CCM alone), associated data. */
+static EVP_CIPHER_CTX *start(const struct aead *how, int sealing, size_t n, const uint8_t *tag)
+{
+    int ccm = how->nonce_len == 11, out = 0, ok = 1;
+    EVP_CIPHER_CTX *c = EVP_CIPHER_CTX_new();
+    need(c != NULL, "make a context");
+    ok &= EVP_CipherInit_ex(c, ccm ? EVP_aes_128_ccm() : EVP_aes_128_gcm(), NULL, NULL, NULL, sealing);
+    ok &= EVP_CIPHER_CTX_ctrl(c, EVP_CTRL_AEAD_SET_IVLEN, how->nonce_len, NULL);
+    if (ccm || !sealing) ok &= EVP_CIPHER_CTX_ctrl(c, EVP_CTRL_AEAD_SET_TAG, 16, (void *)tag);
+    ok &= EVP_CipherInit_ex(c, NULL, NULL, how->key, how->nonce, sealing);
+    if (ccm) ok &= EVP_CipherUpdate(c, NULL, &out, NULL, (int)n);
+    if (how->aad_len > 0) ok &= EVP_CipherUpdate(c, NULL, &out, how->aad, (int)how->aad_len);
+    need(ok == 1, "start");
+    return c;
+}
+
+void openssl_seal(const struct aead *how, uint8_t *text, size_t n, uint8_t *tag)
+{
+    EVP_CIPHER_CTX *c = start(how, 1, n, NULL);
+    int out = 0, ok = EVP_CipherUpdate(c, text, &out, n > 0 ? text : nothing, (int)n);
+    ok &= EVP_CipherFinal_ex(c, text + out, &out);
+    ok &= EVP_CIPHER_CTX_ctrl(c, EVP_CTRL_AEAD_GET_TAG, 16, tag);
+    need(ok == 1, "seal");
+    EVP_CIPHER_CTX_free(c);
+}
+
+/* CCM compares the tag in the update, GCM at the end. */
+int openssl_open(const struct aead *how, uint8_t *text, size_t n, const uint8_t *tag)
+{
+    EVP_CIPHER_CTX *c = start(how, 0, n, tag);
+    int out = 0, right = EVP_CipherUpdate(c, text, &out, n > 0 ? text : nothing, (int)n) == 1;
+    if (how->nonce_len == 12) right = right && EVP_CipherFinal_ex(c, text + out, &out) == 1;
+    EVP_CIPHER_CTX_free(c);
+    return right;
+}

@@ -1,0 +1,23 @@
+/*
+ * AES-128-CCM and AES-128-GCM by OpenSSL, in place, with tags of 16 bytes. A nonce of 11 bytes means CCM, one of 12 GCM.
+ */
+#ifndef OPENSSL_AEAD_H
+#define OPENSSL_AEAD_H
+
+#include <stddef.h>
+#include <stdint.h>
+
+struct aead {
+    const uint8_t *key;
+    const uint8_t *nonce;
+    int nonce_len;
+    const uint8_t *aad;
+    size_t aad_len;
+};
+
+void openssl_seal(const struct aead *how, uint8_t *text, size_t n, uint8_t *tag);
+
+/* 1 where the tag is right and the text is now the plaintext; 0 where it is not, and then the text is of no use. */
+int openssl_open(const struct aead *how, uint8_t *text, size_t n, const uint8_t *tag);
+
+#endif

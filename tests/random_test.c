@@ -1,0 +1,37 @@
+/*
+ * Random calls of the five functions, by the library and by the model: the same answers, and the same bytes and numbers in all that
+ * was lent. At the end every number that a function can answer must have come up.
+ *
+ * Usage: random_test [SEED [CASES [FIRST]]]: a case is made again by its number, with CASES 1.
+ */
+#include <stdlib.h>
+
+#include "check.h"
+#include "generate.h"
+
+enum { CASES = 200000, NUMBERS = 41, ENOUGH = 20000 };
+
+static unsigned long seen[FUNCTIONS][NUMBERS];
+
+static const struct { enum function function; uint32_t number; } answers[] = {
+    {DERIVE, 0}, {DERIVE, 18}, {DERIVE, 19}, {DERIVE, 40}, {FOLD, 0}, {FOLD, 23}, {FOLD, 40}, {FOLD_RESPONSE, 0},
+    {FOLD_RESPONSE, 23}, {FOLD_RESPONSE, 40}, {SEAL, 0}, {SEAL, 1}, {SEAL, 2}, {SEAL, 11}, {SEAL, 12}, {SEAL, 13}, {SEAL, 14},
+    {SEAL, 15}, {SEAL, 16}, {SEAL, 17}, {SEAL, 40}, {OPEN, 0}, {OPEN, 1}, {OPEN, 2}, {OPEN, 4}, {OPEN, 5}, {OPEN, 6}, {OPEN, 9},
+    {OPEN, 10}, {OPEN, 11}, {OPEN, 12}, {OPEN, 13}, {OPEN, 14}, {OPEN, 15}, {OPEN, 16}, {OPEN, 40},
+};
+
+int main(int argc, char **argv)
+{
+    unsigned long cases = argc > 2 ? strtoul(argv[2], NULL, 0) : CASES, first = argc > 3 ? strtoul(argv[3], NULL, 0) : 0;
+    begin(argc, argv);
+    for (unsigned long i = first; i < first + cases; i++) {
+        begin_case(i);
+        struct call c = generate();
+        uint32_t r = compare(&c, &heap);
+        if (r >= NUMBERS) fail("a number that document 01 does not have", r);
+        seen[c.function][r]++;
+    }
+    for (size_t i = 0; i < COUNT(answers) && cases >= ENOUGH; i++)
+        expect(seen[answers[i].function][answers[i].number] >= 10, "an answer that hardly came up", answers[i].number);
+    return finish();
+}

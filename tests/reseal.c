@@ -1,0 +1,88 @@
+/*
+ * One connection's keys and chain, kept by the library, for scripts/samba-check, which stands between a client and a server. A line of
+ * standard input is a command, and gets a line in answer. Bytes are in hexadecimal.
+ *
+ *     fold MESSAGE              answers "0", or another number
+ *     response MESSAGE          the same, for a session setup response
+ *     derive DIALECT CIPHER ID KEY    dialect, cipher and id as hexadecimal numbers; answers the four keys
+ *     reseal DIRECTION MESSAGE  0 for a request, 1 for a response: opens the sealed message, seals it again under a counter of our
+ *                               own, and answers the number of inner headers and the new message; or "refused" and the number
+ */
+#include <stdio.h>
+#include <stdlib.h>
+#include <string.h>
+
+#include "../include/smb3seal.h"
+
+enum { ROOM = SMB3SEAL_HEADER_BYTES + SMB3SEAL_LONGEST_MESSAGE };
+
+static uint16_t dialect, cipher;
+static uint64_t id, counters[2];
+static uint8_t chain[64], keys[64], bytes[ROOM];
+static char line[2 * ROOM + 100];
+
+/* The value of a lower-case digit, or 16. */
+static unsigned digit(char c)
+{
+    if (c >= '0' && c <= '9') return (unsigned)(c - '0');
+    return c >= 'a' && c <= 'f' ? (unsigned)(c - 'a' + 10) : 16;
+}
+
+static size_t read_bytes(const char *text, uint8_t *at, size_t room)
+{
+    size_t n = 0;
+    for (; n < room && digit(text[2 * n]) < 16 && digit(text[2 * n + 1]) < 16; n++)
+        at[n] = (uint8_t)(digit(text[2 * n]) << 4 | digit(text[2 * n + 1]));
+    return n;
+}
+
+static void print_bytes(const uint8_t *at, size_t n)
+{
+    for (size_t i = 0; i < n; i++) printf("%02x", at[i]);
+    printf("\n");
+}
+
+static void derive(const char *text)
+{
+    unsigned d, c;
+    unsigned long long session;
+    int at = 0;
+    uint8_t material[32];
+    if (sscanf(text, "%x %x %llx %n", &d, &c, &session, &at) != 3) exit(2);
+    dialect = (uint16_t)d;
+    cipher = (uint16_t)c;
+    id = session;
+    if (smb3seal_derive(dialect, material, read_bytes(text + at, material, sizeof material), chain, 64, keys, 64) != 0) exit(2);
+    print_bytes(keys, 64);
+}
+
+static void reseal(int direction, const char *text)
+{
+    const uint8_t *key = keys + (direction == 0 ? SMB3SEAL_CLIENT_TO_SERVER_KEY : SMB3SEAL_SERVER_TO_CLIENT_KEY);
+    size_t n = read_bytes(text, bytes, ROOM);
+    uint64_t opened = 0, sealed = 0;
+    uint32_t r = smb3seal_open(dialect, 1, cipher, key, 16, id, bytes, n, &opened);
+    memset(bytes, 0, r == 0 ? SMB3SEAL_HEADER_BYTES : 0);
+    if (r == 0) r = smb3seal_seal(dialect, 1, cipher, key, 16, id, &counters[direction], bytes, n, &sealed);
+    if (r != 0 || opened != sealed) {
+        printf("refused %u\n", r);
+        return;
+    }
+    printf("%llu ", (unsigned long long)sealed);
+    print_bytes(bytes, n);
+}
+
+int main(void)
+{
+    while (fgets(line, sizeof line, stdin) != NULL) {
+        uint32_t folded;
+        if (strncmp(line, "fold ", 5) == 0) printf("%u\n", smb3seal_fold(chain, 64, bytes, read_bytes(line + 5, bytes, ROOM)));
+        else if (strncmp(line, "response ", 9) == 0)
+            printf("%u\n", smb3seal_fold_response(chain, 64, bytes, read_bytes(line + 9, bytes, ROOM), &folded));
+        else if (strncmp(line, "derive ", 7) == 0) derive(line + 7);
+        else if (strncmp(line, "reseal ", 7) == 0) reseal(line[7] == '1', line + 9);
+        else return 2;
+        fflush(stdout);
+    }
+    return 0;
+}
