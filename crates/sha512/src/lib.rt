@@ -8,7 +8,7 @@ mod rounds;
 use compression::hash_blocks;
 use constants::initial_hash_value;
 use constants::round_constants;
-use octets::runs::copy;
+use runs::copy;
 use padding::digest;
 use padding::padded;
 use padding::padded_length;

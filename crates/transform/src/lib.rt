@@ -32,7 +32,7 @@ pub fn open_under(
     if second != 0 {
         return Outcome::Refused(second);
     }
-    let k = octets::arrays::bytes_16(key, 0);
+    let k = arrays::bytes_16(key, 0);
     let used = tests::cipher_used(dialect, encryption, cipher);
     text::open_message(used, k, id, message)
 }
@@ -60,7 +60,7 @@ pub fn seal_under(
     if counter == LAST_COUNTER {
         return Outcome::Refused(17);
     }
-    let k = octets::arrays::bytes_16(key, 0);
+    let k = arrays::bytes_16(key, 0);
     let used = tests::cipher_used(dialect, encryption, cipher);
     text::seal_message(used, k, counter, id, message);
     out

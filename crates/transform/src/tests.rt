@@ -77,7 +77,7 @@ pub fn transform_number(m: &[u8], later: u32) -> u32
     requires { ⌜ 52 < length (now m) ⌝ }
     ensures { λ r. ⌜ r ≡ firstElse (transformTests (now (m .entry))) later ⌝ }
 {
-    let line5 = refuse(5, !(octets::little_endian::u16_at(m, 42) == 1), later);
+    let line5 = refuse(5, !(little_endian::u16_at(m, 42) == 1), later);
     refuse(4, !is_transform(m), line5)
 }
 
@@ -86,6 +86,6 @@ pub fn header_number(m: &[u8], id: u64) -> u32
     requires { ⌜ 52 < length (now m) ⌝ }
     ensures { λ r. ⌜ r ≡ firstOf (transformTests (now (m .entry)) ++ idTests (now (m .entry)) id) ⌝ }
 {
-    let line6 = refuse(6, !(octets::little_endian::u64_at(m, 44) == id), 0);
+    let line6 = refuse(6, !(little_endian::u64_at(m, 44) == id), 0);
     transform_number(m, line6)
 }

@@ -49,10 +49,10 @@ pub fn open_message(cipher: u8, key: [u8; 16], id: u64, m: &mut [u8]) -> Outcome
     requires { ⌜ Sized (now m) ⌝ }
     ensures { λ r. ⌜ OpensMessage cipher key id (now (m .entry)) (now (m .exit)) (answerOf r) ⌝ }
 {
-    let tag = octets::arrays::bytes_16(m, 4);
-    let nonce = octets::arrays::bytes_16(m, 20);
-    let aad = octets::arrays::bytes_32(m, 20);
-    let size = octets::little_endian::u32_at(m, 36);
+    let tag = arrays::bytes_16(m, 4);
+    let nonce = arrays::bytes_16(m, 20);
+    let aad = arrays::bytes_32(m, 20);
+    let size = little_endian::u32_at(m, 36);
     open_text(cipher, key, nonce, aad, tag, size, id, &mut m[52..])
 }
 
@@ -69,9 +69,9 @@ fn write_header(m: &mut [u8], tag: [u8; 16], aad: [u8; 32])
     requires { ⌜ Sized (now m) ⌝ }
     ensures { λ _. ⌜ now (m .exit) ≡ transformMessage tag aad (inner (now (m .entry))) ⌝ }
 {
-    octets::runs::copy(m, 0, b"\xFDSMB");
-    octets::runs::copy(m, 4, &tag);
-    octets::runs::copy(m, 20, &aad);
+    runs::copy(m, 0, b"\xFDSMB");
+    runs::copy(m, 4, &tag);
+    runs::copy(m, 20, &aad);
 }
 
 // Seals the message in place once all tests have passed.
