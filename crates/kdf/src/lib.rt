@@ -1,6 +1,6 @@
 // Key derivation in counter mode (NIST SP 800-108, revision 1, §4.1) with HMAC-SHA-256.
-use hmac::Mac;
 use big_endian::u32_bytes;
+use hmac::Mac;
 use runs::copy;
 ghost use mathlib.Core.Path.{_≡_};
 ghost use Rattle.sha2.specs.Sha256.{sha256};

@@ -14,13 +14,7 @@ fn ctr_sized(key: &[u8], prefix: &[u8], first: u16, text: &mut [u8])
 {
     let keys = aes::expand_key(arrays::bytes_16(key, 0));
     let t = aes::table();
-    ctr::apply(
-        &t,
-        &keys,
-        arrays::bytes_12(prefix, 0),
-        first as u32,
-        text,
-    );
+    ctr::apply(&t, &keys, arrays::bytes_12(prefix, 0), first as u32, text);
 }
 
 #[no_mangle]
