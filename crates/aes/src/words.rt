@@ -45,7 +45,7 @@ pub fn load(s: [u8; 16]) -> Columns
 pub fn load_counter(p: [u8; 12], n: u32) -> Columns
     ensures { λ r. ⌜ stateOf r ≡ p ++ toBigEndian 4 n ⌝ }
 {
-    let c = octets::big_endian::u32_bytes(n);
+    let c = big_endian::u32_bytes(n);
     Columns {
         c0: word(p[0], p[1], p[2], p[3]),
         c1: word(p[4], p[5], p[6], p[7]),

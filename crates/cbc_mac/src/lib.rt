@@ -13,7 +13,7 @@ fn next(t: &[u32; 256], keys: &[[u8; 16]], y: [u8; 16], x: [u8; 16]) -> [u8; 16]
     requires { ⌜ (1 < length (now keys)) × SubMixTable (now t) ⌝ }
     ensures { λ r. ⌜ r ≡ blockCipher (now (keys .entry)) (xor y x) ⌝ }
 {
-    aes::encrypt_with(t, keys, octets::runs::xor_16(y, x))
+    aes::encrypt_with(t, keys, runs::xor_16(y, x))
 }
 
 // The chain from y over the blocks of s, the last filled with zeros.
@@ -25,12 +25,12 @@ pub fn chain(t: &[u32; 256], keys: &[[u8; 16]], y: [u8; 16], s: &[u8]) -> [u8; 1
     let mut at: usize = 0;
     // Whole blocks: where 16 bytes are left, block_at reads them at once.
     while 16 <= s.len() - at {
-        let g = next(t, keys, z, octets::blocks::block_at(s, at));
+        let g = next(t, keys, z, blocks::block_at(s, at));
         z = g;
         at += 16;
     }
     if at < s.len() {
-        return next(t, keys, z, octets::blocks::block_at(s, at));
+        return next(t, keys, z, blocks::block_at(s, at));
     }
     z
 }

@@ -9,7 +9,7 @@ pub fn flags_and_nonce(flags: u8, nonce: [u8; 11]) -> [u8; 12]
 {
     let mut b = [0u8; 12];
     b[0] = flags;
-    octets::runs::copy(&mut b, 1, &nonce);
+    runs::copy(&mut b, 1, &nonce);
     b
 }
 
@@ -19,6 +19,6 @@ pub fn with_length(aad: [u8; 32]) -> [u8; 34]
 {
     let mut b = [0u8; 34];
     b[1] = 32;
-    octets::runs::copy(&mut b, 2, &aad);
+    runs::copy(&mut b, 2, &aad);
     b
 }

@@ -29,7 +29,7 @@ fn tag_of(
         keys,
         ctr::counter_block(formatting::flags_and_nonce(3, nonce), 0),
     );
-    octets::runs::xor_16(y, s0)
+    runs::xor_16(y, s0)
 }
 
 fn xor_key_stream(t: &[u32; 256], keys: &[[u8; 16]], nonce: [u8; 11], text: &mut [u8])
@@ -73,7 +73,7 @@ pub fn open(
     let t = aes::table();
     xor_key_stream(&t, keys, nonce, text);
     let expected = tag_of(&t, keys, nonce, aad, text);
-    if octets::same::same_16(tag, expected) {
+    if compare::same_16(tag, expected) {
         return true;
     }
     xor_key_stream(&t, keys, nonce, text);

@@ -1,6 +1,6 @@
 // Fields of the inner header at place p (MS-SMB2 2.2.1.2).
-use octets::little_endian::u32_at;
-use octets::little_endian::u64_at;
+use little_endian::u32_at;
+use little_endian::u64_at;
 ghost use mathlib.Core.Path.{_≡_};
 ghost use Prim.Native.Nat.{_+_, _≤_, _<_, _^_};
 ghost use lib.ListN.{length};

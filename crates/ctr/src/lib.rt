@@ -12,10 +12,10 @@ ghost use Rattle.ctr.specs.Ctr.{ctr, counterBlocks};
 pub fn counter_block(prefix: [u8; 12], n: u32) -> [u8; 16]
     ensures { λ r. ⌜ r ≡ prefix ++ toBigEndian 4 n ⌝ }
 {
-    let c = octets::big_endian::u32_bytes(n);
+    let c = big_endian::u32_bytes(n);
     let mut b = [0u8; 16];
-    octets::runs::copy(&mut b, 0, &prefix);
-    octets::runs::copy(&mut b, 12, &c);
+    runs::copy(&mut b, 0, &prefix);
+    runs::copy(&mut b, 12, &c);
     b
 }
 
@@ -28,12 +28,12 @@ pub fn apply(t: &[u32; 256], keys: &[[u8; 16]], prefix: [u8; 12], first: u32, te
     let mut n = first;
     // Whole blocks: the count of 16 is fixed, so that a block is xored at once.
     while 16 <= text.len() - i {
-        octets::runs::xor_at(text, i, 16, aes::encrypt_counter(t, keys, prefix, n));
+        runs::xor_at(text, i, 16, aes::encrypt_counter(t, keys, prefix, n));
         i += 16;
         n += 1;
     }
     if i < text.len() {
-        octets::runs::xor_at(
+        runs::xor_at(
             text,
             i,
             text.len() - i,

@@ -44,7 +44,7 @@ pub fn open(keys: &[[u8; 16]], nonce: [u8; 12], aad: &[u8], tag: [u8; 16], text:
 {
     let t = aes::table();
     let expected = tags::tag_with(&t, keys, nonce, aad, text);
-    if octets::same::same_16(tag, expected) {
+    if compare::same_16(tag, expected) {
         encrypt_with(&t, keys, nonce, text);
         return true;
     }

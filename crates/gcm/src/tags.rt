@@ -51,5 +51,5 @@ pub fn tag_with(
     let k = hash_subkey(t, keys);
     let s = hash(k, aad, body);
     let e = encrypt_pre_counter(t, keys, nonce);
-    octets::runs::xor_16(s, e)
+    runs::xor_16(s, e)
 }

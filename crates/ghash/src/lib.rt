@@ -54,7 +54,7 @@ pub fn update(k: HashKey, y: Element, s: &[u8]) -> Element
     let mut at: usize = 0;
     while at < s.len() {
         z = step(k, z, load::block(s, at));
-        at += octets::blocks::at_most_16(s.len() - at);
+        at += blocks::at_most_16(s.len() - at);
     }
     z
 }
@@ -70,10 +70,10 @@ pub fn update_lengths(k: HashKey, y: Element, a: u64, b: u64) -> Element
 pub fn block_of(e: Element) -> [u8; 16]
     ensures { λ r. ⌜ r ≡ toBigEndian 16 (elementOf e) ⌝ }
 {
-    let a = octets::big_endian::u64_bytes(e.hi);
-    let b = octets::big_endian::u64_bytes(e.lo);
+    let a = big_endian::u64_bytes(e.hi);
+    let b = big_endian::u64_bytes(e.lo);
     let mut r = [0u8; 16];
-    octets::runs::copy(&mut r, 0, &a);
-    octets::runs::copy(&mut r, 8, &b);
+    runs::copy(&mut r, 0, &a);
+    runs::copy(&mut r, 8, &b);
     r
 }

@@ -13,8 +13,8 @@ pub fn element(s: &[u8], at: usize) -> Element
     ensures { λ r. ⌜ elementOf r ≡ bigEndian (zeroPadded 16 (drop at (now (s .entry)))) ⌝ }
 {
     Element {
-        hi: octets::big_endian::u64_at(s, at),
-        lo: octets::big_endian::u64_at(s, at + 8),
+        hi: big_endian::u64_at(s, at),
+        lo: big_endian::u64_at(s, at + 8),
     }
 }
 
@@ -24,7 +24,7 @@ pub fn block(s: &[u8], at: usize) -> Element
     ensures { λ r. ⌜ elementOf r ≡ bigEndian (zeroPadded 16 (drop at (now (s .entry)))) ⌝ }
 {
     if s.len() - at < 16 {
-        let b = octets::blocks::block_at(s, at);
+        let b = blocks::block_at(s, at);
         element(&b, 0)
     } else {
         element(s, at)

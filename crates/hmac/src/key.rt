@@ -1,5 +1,5 @@
 // The key in a block of the hash (FIPS 198-1 §4, table 1, steps 1 to 4 and 7).
-use octets::runs::copy;
+use runs::copy;
 ghost use mathlib.Core.Path.{_≡_};
 ghost use Prim.Native.Nat.{_≤_};
 ghost use lib.ListN.{length, replicate};

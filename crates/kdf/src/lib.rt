@@ -1,7 +1,7 @@
 // Key derivation in counter mode (NIST SP 800-108, revision 1, §4.1) with HMAC-SHA-256.
+use big_endian::u32_bytes;
 use hmac::Mac;
-use octets::big_endian::u32_bytes;
-use octets::runs::copy;
+use runs::copy;
 ghost use mathlib.Core.Path.{_≡_};
 ghost use Rattle.sha2.specs.Sha256.{sha256};
 ghost use Rattle.hmac.specs.Hmac as spec;

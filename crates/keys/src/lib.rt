@@ -2,7 +2,7 @@
 mod place;
 mod table;
 
-use octets::blocks::block_at;
+use blocks::block_at;
 use place::write;
 use table::derived;
 ghost use mathlib.Core.Path.{_≡_};

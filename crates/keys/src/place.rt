@@ -1,6 +1,6 @@
 // The caller's place for the keys.
 use crate::table::Keys;
-use octets::runs::copy;
+use runs::copy;
 ghost use mathlib.Core.Path.{_≡_};
 ghost use lib.ListN.{length};
 ghost use Rattle.protocol.specs.Keys.{keysInOrder};

@@ -1,7 +1,2 @@
-// Bytes and numbers, runs of bytes in place, blocks of 16 bytes. What several crates need stands here once.
-pub mod arrays;
-pub mod big_endian;
-pub mod blocks;
-pub mod little_endian;
-pub mod runs;
-pub mod same;
+// No code: byte strings as numbers, xored, compared and in blocks are defined in specs/, and their laws are in proofs/.
+// The code is in big_endian, little_endian, runs, blocks, arrays and compare.

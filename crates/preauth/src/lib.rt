@@ -1,6 +1,6 @@
 // The preauthentication integrity hash: messages folded into a chain value (document 01, "Chain").
-use octets::little_endian::u32_at;
-use octets::runs::copy;
+use little_endian::u32_at;
+use runs::copy;
 use sha512::Sha512;
 ghost use mathlib.Core.Path.{_≡_};
 ghost use mathlib.Core.Bool.{true};

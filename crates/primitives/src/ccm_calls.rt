@@ -12,15 +12,9 @@ fn ctr_sized(key: &[u8], prefix: &[u8], first: u16, text: &mut [u8])
     requires { ⌜ (length (now key) ≡ 16) × (length (now prefix) ≡ 12) × (length (now text) < 2 ^ 32 - 2 ^ 17) ⌝ }
     ensures { λ _. ⌜ now (text .exit) ≡ ctr (aes128 (now (key .entry))) (counterBlocks (now (prefix .entry)) first) (now (text .entry)) ⌝ }
 {
-    let keys = aes::expand_key(octets::arrays::bytes_16(key, 0));
+    let keys = aes::expand_key(arrays::bytes_16(key, 0));
     let t = aes::table();
-    ctr::apply(
-        &t,
-        &keys,
-        octets::arrays::bytes_12(prefix, 0),
-        first as u32,
-        text,
-    );
+    ctr::apply(&t, &keys, arrays::bytes_12(prefix, 0), first as u32, text);
 }
 
 #[no_mangle]
@@ -39,11 +33,11 @@ fn seal_sized(key: &[u8], nonce: &[u8], aad: &[u8], text: &mut [u8], tag: &mut [
     ensures { λ _. ⌜ (now (text .exit) ≡ encrypt (aes128 (now (key .entry))) (now (nonce .entry)) (now (text .entry)))
         × (now (tag .exit) ≡ tagOf (aes128 (now (key .entry))) (now (nonce .entry)) (now (aad .entry)) (now (text .entry))) ⌝ }
 {
-    let keys = aes::expand_key(octets::arrays::bytes_16(key, 0));
-    let n = octets::arrays::bytes_11(nonce, 0);
-    let a = octets::arrays::bytes_32(aad, 0);
+    let keys = aes::expand_key(arrays::bytes_16(key, 0));
+    let n = arrays::bytes_11(nonce, 0);
+    let a = arrays::bytes_32(aad, 0);
     let t = ccm::seal(&keys, n, a, text);
-    octets::runs::copy(tag, 0, &t);
+    runs::copy(tag, 0, &t);
 }
 
 #[no_mangle]
@@ -76,10 +70,10 @@ fn open_sized(key: &[u8], nonce: &[u8], aad: &[u8], tag: &[u8], text: &mut [u8])
     ensures { λ r. ⌜ (r ≡ isSome (decrypt (aes128 (now (key .entry))) (now (nonce .entry)) (now (aad .entry)) (now (tag .entry)) (now (text .entry))))
         × (now (text .exit) ≡ Option·getD (decrypt (aes128 (now (key .entry))) (now (nonce .entry)) (now (aad .entry)) (now (tag .entry)) (now (text .entry))) (now (text .entry))) ⌝ }
 {
-    let keys = aes::expand_key(octets::arrays::bytes_16(key, 0));
-    let n = octets::arrays::bytes_11(nonce, 0);
-    let a = octets::arrays::bytes_32(aad, 0);
-    let t = octets::arrays::bytes_16(tag, 0);
+    let keys = aes::expand_key(arrays::bytes_16(key, 0));
+    let n = arrays::bytes_11(nonce, 0);
+    let a = arrays::bytes_32(aad, 0);
+    let t = arrays::bytes_16(tag, 0);
     ccm::open(&keys, n, a, t, text)
 }
 

@@ -12,10 +12,10 @@ fn seal_sized(key: &[u8], nonce: &[u8], aad: &[u8], text: &mut [u8], tag: &mut [
     ensures { λ _. ⌜ (now (text .exit) ≡ encrypt (aes128 (now (key .entry))) (now (nonce .entry)) (now (text .entry)))
         × (now (tag .exit) ≡ tagOf (aes128 (now (key .entry))) (now (nonce .entry)) (now (aad .entry)) (encrypt (aes128 (now (key .entry))) (now (nonce .entry)) (now (text .entry)))) ⌝ }
 {
-    let keys = aes::expand_key(octets::arrays::bytes_16(key, 0));
-    let n = octets::arrays::bytes_12(nonce, 0);
+    let keys = aes::expand_key(arrays::bytes_16(key, 0));
+    let n = arrays::bytes_12(nonce, 0);
     let t = gcm::seal(&keys, n, aad, text);
-    octets::runs::copy(tag, 0, &t);
+    runs::copy(tag, 0, &t);
 }
 
 #[no_mangle]
@@ -48,9 +48,9 @@ fn open_sized(key: &[u8], nonce: &[u8], aad: &[u8], tag: &[u8], text: &mut [u8])
     ensures { λ r. ⌜ (r ≡ isSome (decrypt (aes128 (now (key .entry))) (now (nonce .entry)) (now (aad .entry)) (now (tag .entry)) (now (text .entry))))
         × (now (text .exit) ≡ Option·getD (decrypt (aes128 (now (key .entry))) (now (nonce .entry)) (now (aad .entry)) (now (tag .entry)) (now (text .entry))) (now (text .entry))) ⌝ }
 {
-    let keys = aes::expand_key(octets::arrays::bytes_16(key, 0));
-    let n = octets::arrays::bytes_12(nonce, 0);
-    let t = octets::arrays::bytes_16(tag, 0);
+    let keys = aes::expand_key(arrays::bytes_16(key, 0));
+    let n = arrays::bytes_12(nonce, 0);
+    let t = arrays::bytes_16(tag, 0);
     gcm::open(&keys, n, aad, t, text)
 }
 

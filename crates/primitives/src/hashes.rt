@@ -15,7 +15,7 @@ pub extern "C" fn primitives_sha256(message: &[u8], digest: &mut [u8]) -> u32
 {
     if digest.len() == 32 {
         let value = sha256::hash(message);
-        octets::runs::copy(digest, 0, &value);
+        runs::copy(digest, 0, &value);
         return 0;
     }
     40
@@ -27,7 +27,7 @@ pub extern "C" fn primitives_sha512(message: &[u8], digest: &mut [u8]) -> u32
 {
     if digest.len() == 64 {
         let value = sha512::hash(message);
-        octets::runs::copy(digest, 0, &value);
+        runs::copy(digest, 0, &value);
         return 0;
     }
     40
@@ -39,7 +39,7 @@ pub extern "C" fn primitives_hmac(key: &[u8], message: &[u8], code: &mut [u8]) -
 {
     if code.len() == 32 {
         let value = hmac::hmac(key, message);
-        octets::runs::copy(code, 0, &value);
+        runs::copy(code, 0, &value);
         return 0;
     }
     40
@@ -56,7 +56,7 @@ pub extern "C" fn primitives_kdf(
 {
     if derived.len() == 16 {
         let value = kdf::derive_16(key, label, context);
-        octets::runs::copy(derived, 0, &value);
+        runs::copy(derived, 0, &value);
         return 0;
     }
     40

@@ -9,7 +9,7 @@ use Rattle.protocol.specs.Answer.{Test, firstOf}
 use Rattle.protocol.specs.UnderKey.{Protection}
 use Rattle.protocol.proofs.Judging.{positive, passes}
 use Rattle.transform.specs.UnderKey.{protectionOf}
-use Rattle.transform.proofs.FirstOf.{first-stays, first-goes-on}
+use Rattle.protocol.proofs.FirstOf.{first-stays, first-goes-on}
 
 abbrev withEncryption : ℕ → Bool → ℕ → Protection
 withEncryption d b cipher = record { dialect = d; encryption = b; cipher = cipher }

@@ -129,7 +129,7 @@ pub fn session_id(message: &[u8]) -> u64
     if message.len() <= 52 {
         return 0;
     }
-    octets::little_endian::u64_at(message, 44)
+    little_endian::u64_at(message, 44)
 }
 
 // Seals the message in place: 1, 2, 3, 6, 7, 8, 11 to 16, 17. Refused, the message and the record are as they were.

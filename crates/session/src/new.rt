@@ -35,10 +35,10 @@ pub fn fresh(a: Adding, keys: [u8; 64]) -> Session
     ensures { λ r. ⌜ sessionOf r ≡ recordWith a keys ⌝ }
 {
     let bare = a.guest | a.anonymous;
-    let signing = octets::arrays::bytes_16(&keys, 0);
-    let application = octets::arrays::bytes_16(&keys, 16);
-    let first = held(bare, octets::arrays::bytes_16(&keys, 32));
-    let second = held(bare, octets::arrays::bytes_16(&keys, 48));
+    let signing = arrays::bytes_16(&keys, 0);
+    let application = arrays::bytes_16(&keys, 16);
+    let first = held(bare, arrays::bytes_16(&keys, 32));
+    let second = held(bare, arrays::bytes_16(&keys, 48));
     Session {
         used: true,
         id: a.id,

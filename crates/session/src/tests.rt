@@ -38,7 +38,7 @@ pub fn seal_number(s: Session, c: Connection, message: &[u8]) -> u32
     ensures { λ r. ⌜ r ≡ firstOf (sealTests (connectionOf c .protection) (now (message .entry)) ++ recordTests (connectionOf c) (sessionOf s)) ⌝ }
 {
     let on = switch(c.encryption);
-    let first = transform::seal_number(c.dialect, on, c.cipher, message);
+    let first = transform_tests::seal_number(c.dialect, on, c.cipher, message);
     if first != 0 {
         return first;
     }
@@ -50,7 +50,7 @@ pub fn open_number(s: Session, c: Connection, message: &[u8]) -> u32
     ensures { λ r. ⌜ r ≡ firstOf (openTests (connectionOf c .protection) (now (message .entry)) ++ recordTests (connectionOf c) (sessionOf s)) ⌝ }
 {
     let on = switch(c.encryption);
-    let first = transform::open_number(c.dialect, on, c.cipher, message);
+    let first = transform_tests::open_number(c.dialect, on, c.cipher, message);
     if first != 0 {
         return first;
     }

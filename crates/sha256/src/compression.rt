@@ -2,7 +2,7 @@
 use crate::rounds::Working;
 use crate::rounds::first_rounds;
 use crate::rounds::last_rounds;
-use octets::big_endian::u32_at;
+use big_endian::u32_at;
 use std::num::wrapping_add_u32;
 ghost use mathlib.Core.Path.{_≡_};
 ghost use Prim.Native.Nat.{_/_};

@@ -18,10 +18,12 @@ use Rattle.protocol.specs.TransformHeader.{inner, originalMessageSize}
 use Rattle.protocol.specs.UnderKey.{Protection, cipherUsed, firstTests, transformTests, idTests, sizeThenWalk, plaintextUnder, openUnderKeyAnswer, openUnderKeyBuffer}
 use Rattle.protocol.specs.Suite.{ciphers}
 use Rattle.protocol.proofs.AnswerLaws.{when-done, when-refused}
-use Rattle.protocol.proofs.First.{First, key-whole}
+use Rattle.protocol.proofs.First.{First, first-passed, key-whole}
+use Rattle.protocol.proofs.FirstOf.{first-of-both}
 use Rattle.protocol.proofs.Judging.{refuses, passes, judge-passed}
 use Rattle.protocol.proofs.SuiteLaws.{suite-sound}
-use Rattle.transform.specs.Calls.{Deciphered, OpensText, OpensMessage}
+use Rattle.ciphers.specs.Calls.{Deciphered}
+use Rattle.transform.specs.Calls.{OpensText, OpensMessage}
 use Rattle.transform.specs.UnderKey.{OpensUnder}
 use Rattle.transform.proofs.Inner.{lent, back, when-inner}
 
@@ -94,18 +96,19 @@ module _ (c : Protection) (key : Bytes) (id : ℕ) (m : Bytes) where
   opens-with : (m′ : Bytes) (a : Answer) → a ≡ openUnderKeyAnswer ciphers c key id m → m′ ≡ openUnderKeyBuffer ciphers a c key m → OpensUnder c key id m m′ a
   opens-with m′ a e b = record { answer = e; bytes = b ∙ ap (λ (x : Answer). openUnderKeyBuffer ciphers x c key m) e }
 
-  pub first-refuses : (n : ℕ) → n ≡ firstOf (firstTests c key m) → (n ≡ 0 → ⊥) → OpensUnder c key id m m (refused n)
-  unfolding openUnderKeyAnswer
-  first-refuses n e h = opens-with m (refused n) (sym (refuses (firstTests c key m) _ n e h)) refl
-
-  module _ (f : First c key m) (n : ℕ) (e : n ≡ firstOf (transformTests m ++ idTests m id)) where
-    pub second-refuses : (n ≡ 0 → ⊥) → OpensUnder c key id m m (refused n)
+  -- n is the number of the tests before the tag
+  module _ (n : ℕ) (e : n ≡ firstOf (firstTests c key m ++ (transformTests m ++ idTests m id))) where
+    pub tests-refuse : (n ≡ 0 → ⊥) → OpensUnder c key id m m (refused n)
     unfolding openUnderKeyAnswer
-    second-refuses h = opens-with m (refused n) (sym (judge-passed (firstTests c key m) _ (f .none) ∙ refuses (transformTests m ++ idTests m id) _ n e h)) refl
+    tests-refuse h = opens-with m (refused n) (sym (refuses (firstTests c key m ++ (transformTests m ++ idTests m id)) _ n e h)) refl
 
-    pub message-opens : n ≡ 0 → (used : ℕ) (k m′ : Bytes) (a : Answer) → used ≡ cipherUsed c → k ≡ bytesAt 0 16 key → OpensMessage used k id m m′ a → OpensUnder c key id m m′ a
-    unfolding openUnderKeyAnswer
-    message-opens z used k m′ a eu ek o =
-        let o′ : OpensMessage (cipherUsed c) key id m m′ a = rw (eu, ek ∙ key-whole c key m f) at o in
-        let none = passes (transformTests m ++ idTests m id) n refl e z in
-        opens-with m′ a (o′ .answer ∙ sym (judge-passed (firstTests c key m) _ (f .none) ∙ judge-passed (transformTests m ++ idTests m id) _ none)) (o′ .bytes)
+    module _ (z : n ≡ 0) where
+      pub tests-passed : First c key m
+      tests-passed = first-passed c key m 0 (sym (first-of-both (firstTests c key m) (transformTests m ++ idTests m id) (sym e ∙ z))) refl
+
+      pub message-opens : (used : ℕ) (k m′ : Bytes) (a : Answer) → used ≡ cipherUsed c → k ≡ bytesAt 0 16 key → OpensMessage used k id m m′ a → OpensUnder c key id m m′ a
+      unfolding openUnderKeyAnswer
+      message-opens used k m′ a eu ek o =
+          let o′ : OpensMessage (cipherUsed c) key id m m′ a = rw (eu, ek ∙ key-whole c key m tests-passed) at o in
+          let none = passes (firstTests c key m ++ (transformTests m ++ idTests m id)) n refl e z in
+          opens-with m′ a (o′ .answer ∙ sym (judge-passed (firstTests c key m ++ (transformTests m ++ idTests m id)) _ none)) (o′ .bytes)

@@ -19,7 +19,8 @@ use Rattle.protocol.specs.Suite.{ciphers}
 use Rattle.protocol.proofs.AnswerLaws.{when-done, when-refused, after-done, after-refused}
 use Rattle.protocol.proofs.First.{First, key-whole}
 use Rattle.protocol.proofs.Judging.{refused-judged, refuses, judge-passed}
-use Rattle.transform.specs.Calls.{Enciphered, Sized}
+use Rattle.ciphers.specs.Calls.{Enciphered}
+use Rattle.transform.specs.Calls.{Sized}
 use Rattle.transform.specs.UnderKey.{SealsUnder}
 use Rattle.transform.proofs.Inner.{lent, back}
 

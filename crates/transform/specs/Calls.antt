@@ -1,7 +1,7 @@
 -- Helper definitions of the contracts between the functions of this crate. A primed name is the value afterwards.
 -- Assumes nothing.
 use mathlib.Core.Path.{_≡_}
-use mathlib.Core.Bool.{Bool, not}
+use mathlib.Core.Bool.{not}
 use mathlib.Core.List.{[], _∷_, _++_}
 use mathlib.Core.Option.{Option·getD}
 use Prim.Native.Nat.{ℕ, _≤_, _<_}
@@ -12,16 +12,6 @@ use Rattle.protocol.specs.Answer.{Answer, whenDone, refuse_when_, judge}
 use Rattle.protocol.specs.CompoundWalk.{walk}
 use Rattle.protocol.specs.UnderKey.{tagTests, sizeThenWalk, plaintextUnder}
 use Rattle.protocol.specs.Suite.{ciphers}
-
--- what the cipher does when it seals: the text becomes text′, and r is the tag
-pub record Enciphered (cipher : ℕ) (key nonce auth text text′ r : Bytes) : Type 0 where
-  pub bytes : text′ ≡ ciphers .encrypt cipher key nonce auth text
-  pub tagged : r ≡ ciphers .tag cipher key nonce auth text
-
--- and when it opens: the body becomes body′, and r says whether the tag received was right
-pub record Deciphered (cipher : ℕ) (key nonce auth received body body′ : Bytes) (r : Bool) : Type 0 where
-  pub right : r ≡ isSome (ciphers .decrypt cipher key nonce auth received body)
-  pub bytes : body′ ≡ Option·getD (ciphers .decrypt cipher key nonce auth received body) body
 
 -- lengths that 2 and 3 let pass
 pub record Sized (m : Bytes) : Type 0 where

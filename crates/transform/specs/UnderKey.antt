@@ -1,17 +1,12 @@
 -- What sealing and opening under one given key promise. A primed name is the value afterwards.
 -- Assumes nothing.
 use mathlib.Core.Path.{_≡_}
-use mathlib.Core.Bool.{not}
 use Prim.Native.Nat.{ℕ}
-use lib.Dec.{eqb}
 use Rattle.protocol.specs.Bytes.{Bytes}
 use Rattle.protocol.specs.Answer.{Answer}
 use Rattle.protocol.specs.UnderKey.{Protection, openUnderKeyAnswer, openUnderKeyBuffer, sealUnderKeyAnswer, sealUnderKeyBuffer}
 use Rattle.protocol.specs.Suite.{ciphers}
-
--- dialect, encryption (0 for off, anything else for on) and cipher, as a call is given them
-abbrev pub protectionOf : ℕ → ℕ → ℕ → Protection
-protectionOf dialect encryption cipher = record { dialect = dialect; encryption = not (eqb encryption 0); cipher = cipher }
+pub use Rattle.transform_tests.specs.Protection.{protectionOf}
 
 -- opening the message m, for the session id: the answer is a
 pub record OpensUnder (c : Protection) (key : Bytes) (id : ℕ) (m m′ : Bytes) (a : Answer) : Type 0 where

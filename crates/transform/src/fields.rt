@@ -6,9 +6,9 @@ ghost use Rattle.protocol.specs.TransformHeader.{nonceOf, authenticated};
 pub fn nonce(counter: u64) -> [u8; 16]
     ensures { λ r. ⌜ r ≡ nonceOf counter ⌝ }
 {
-    let c = octets::little_endian::u64_bytes(counter);
+    let c = little_endian::u64_bytes(counter);
     let mut r = [0u8; 16];
-    octets::runs::copy(&mut r, 0, &c);
+    runs::copy(&mut r, 0, &c);
     r
 }
 
@@ -16,13 +16,13 @@ pub fn nonce(counter: u64) -> [u8; 16]
 pub fn authenticated_bytes(counter: u64, size: u32, id: u64) -> [u8; 32]
     ensures { λ r. ⌜ r ≡ authenticated counter size id ⌝ }
 {
-    let c = octets::little_endian::u64_bytes(counter);
-    let s = octets::little_endian::u32_bytes(size);
-    let i = octets::little_endian::u64_bytes(id);
+    let c = little_endian::u64_bytes(counter);
+    let s = little_endian::u32_bytes(size);
+    let i = little_endian::u64_bytes(id);
     let mut r = [0u8; 32];
-    octets::runs::copy(&mut r, 0, &c);
-    octets::runs::copy(&mut r, 16, &s);
+    runs::copy(&mut r, 0, &c);
+    runs::copy(&mut r, 16, &s);
     r[22] = 1;
-    octets::runs::copy(&mut r, 24, &i);
+    runs::copy(&mut r, 24, &i);
     r
 }

@@ -1,12 +1,7 @@
 // Sealing and opening in place under one given key (document 01, "Transform header"; MS-SMB2 3.1.4.3, 3.2.5.1.1 and 3.3.5.2.1).
-mod ciphers;
 mod fields;
-mod tests;
 mod text;
 
-ghost use mathlib.Core.Path.{_≡_};
-ghost use Rattle.protocol.specs.Answer.{firstOf};
-ghost use Rattle.protocol.specs.UnderKey.{sealTests, openTests};
 ghost use Rattle.compound.specs.Outcomes.{answerOf};
 ghost use Rattle.transform.specs.UnderKey.{protectionOf, OpensUnder, SealsUnder};
 use compound::Outcome;
@@ -24,16 +19,12 @@ pub fn open_under(
 ) -> Outcome
     ensures { λ r. ⌜ OpensUnder (protectionOf dialect encryption cipher) (now (key .entry)) id (now (message .entry)) (now (message .exit)) (answerOf r) ⌝ }
 {
-    let first = tests::first_number(dialect, encryption, cipher, key, message);
-    if first != 0 {
-        return Outcome::Refused(first);
+    let number = transform_tests::open_under_number(dialect, encryption, cipher, key, id, message);
+    if number != 0 {
+        return Outcome::Refused(number);
     }
-    let second = tests::header_number(message, id);
-    if second != 0 {
-        return Outcome::Refused(second);
-    }
-    let k = octets::arrays::bytes_16(key, 0);
-    let used = tests::cipher_used(dialect, encryption, cipher);
+    let k = arrays::bytes_16(key, 0);
+    let used = transform_tests::cipher_used(dialect, encryption, cipher);
     text::open_message(used, k, id, message)
 }
 
@@ -49,7 +40,7 @@ pub fn seal_under(
 ) -> Outcome
     ensures { λ r. ⌜ SealsUnder (protectionOf dialect encryption cipher) (now (key .entry)) id counter (now (message .entry)) (now (message .exit)) (answerOf r) ⌝ }
 {
-    let first = tests::first_number(dialect, encryption, cipher, key, message);
+    let first = transform_tests::seal_under_number(dialect, encryption, cipher, key, message);
     if first != 0 {
         return Outcome::Refused(first);
     }
@@ -60,26 +51,8 @@ pub fn seal_under(
     if counter == LAST_COUNTER {
         return Outcome::Refused(17);
     }
-    let k = octets::arrays::bytes_16(key, 0);
-    let used = tests::cipher_used(dialect, encryption, cipher);
+    let k = arrays::bytes_16(key, 0);
+    let used = transform_tests::cipher_used(dialect, encryption, cipher);
     text::seal_message(used, k, counter, id, message);
     out
-}
-
-// 1, 2, 3, or 0: of a seal with the session table, before the record is looked at.
-pub fn seal_number(dialect: u16, encryption: u32, cipher: u16, message: &[u8]) -> u32
-    ensures { λ r. ⌜ r ≡ firstOf (sealTests (protectionOf dialect encryption cipher) (now (message .entry))) ⌝ }
-{
-    tests::seal_number(dialect, encryption, cipher, message)
-}
-
-// 1 to 5, or 0: of an opening with the session table, before the record is looked at.
-pub fn open_number(dialect: u16, encryption: u32, cipher: u16, message: &[u8]) -> u32
-    ensures { λ r. ⌜ r ≡ firstOf (openTests (protectionOf dialect encryption cipher) (now (message .entry))) ⌝ }
-{
-    let first = tests::seal_number(dialect, encryption, cipher, message);
-    if first != 0 {
-        return first;
-    }
-    tests::transform_number(message, 0)
 }

@@ -22,7 +22,7 @@ fn size_then_walk(size: u32, id: u64, text: &[u8]) -> Outcome
 
 // Opens the text in place, from the tag on. After a refusal the key stream is applied again, which turns it back.
 fn open_text(
-    cipher: u8,
+    cipher: u16,
     key: [u8; 16],
     nonce: [u8; 16],
     aad: [u8; 32],
@@ -34,25 +34,25 @@ fn open_text(
     requires { ⌜ length (now text) ≤ 1048576 ⌝ }
     ensures { λ r. ⌜ OpensText cipher key nonce aad tag size id (now (text .entry)) (now (text .exit)) (answerOf r) ⌝ }
 {
-    if !crate::ciphers::open(cipher, key, nonce, aad, tag, text) {
+    if !ciphers::open(cipher, key, nonce, aad, tag, text) {
         return Outcome::Refused(9);
     }
     let out = size_then_walk(size, id, text);
     if compound::refused(out) {
-        crate::ciphers::apply(cipher, key, nonce, text);
+        ciphers::apply(cipher, key, nonce, text);
     }
     out
 }
 
 // Opens the message in place, from the tag on.
-pub fn open_message(cipher: u8, key: [u8; 16], id: u64, m: &mut [u8]) -> Outcome
+pub fn open_message(cipher: u16, key: [u8; 16], id: u64, m: &mut [u8]) -> Outcome
     requires { ⌜ Sized (now m) ⌝ }
     ensures { λ r. ⌜ OpensMessage cipher key id (now (m .entry)) (now (m .exit)) (answerOf r) ⌝ }
 {
-    let tag = octets::arrays::bytes_16(m, 4);
-    let nonce = octets::arrays::bytes_16(m, 20);
-    let aad = octets::arrays::bytes_32(m, 20);
-    let size = octets::little_endian::u32_at(m, 36);
+    let tag = arrays::bytes_16(m, 4);
+    let nonce = arrays::bytes_16(m, 20);
+    let aad = arrays::bytes_32(m, 20);
+    let size = little_endian::u32_at(m, 36);
     open_text(cipher, key, nonce, aad, tag, size, id, &mut m[52..])
 }
 
@@ -69,19 +69,19 @@ fn write_header(m: &mut [u8], tag: [u8; 16], aad: [u8; 32])
     requires { ⌜ Sized (now m) ⌝ }
     ensures { λ _. ⌜ now (m .exit) ≡ transformMessage tag aad (inner (now (m .entry))) ⌝ }
 {
-    octets::runs::copy(m, 0, b"\xFDSMB");
-    octets::runs::copy(m, 4, &tag);
-    octets::runs::copy(m, 20, &aad);
+    runs::copy(m, 0, b"\xFDSMB");
+    runs::copy(m, 4, &tag);
+    runs::copy(m, 20, &aad);
 }
 
 // Seals the message in place once all tests have passed.
-pub fn seal_message(cipher: u8, key: [u8; 16], counter: u64, id: u64, m: &mut [u8])
+pub fn seal_message(cipher: u16, key: [u8; 16], counter: u64, id: u64, m: &mut [u8])
     requires { ⌜ Sized (now m) ⌝ }
     ensures { λ _. ⌜ now (m .exit) ≡ sealedUnder ciphers cipher key counter id (inner (now (m .entry))) ⌝ }
 {
     let size = (m.len() - 52) as u32;
     let nonce = crate::fields::nonce(counter);
     let aad = crate::fields::authenticated_bytes(counter, size, id);
-    let tag = crate::ciphers::seal(cipher, key, nonce, aad, &mut m[52..]);
+    let tag = ciphers::seal(cipher, key, nonce, aad, &mut m[52..]);
     write_header(m, tag, aad);
 }

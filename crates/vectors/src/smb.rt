@@ -175,8 +175,8 @@ pub fn seal(line: &[u8], whole: bool) {
 fn seal_plain(message: &mut [u8])
     requires { ⌜ 116 ≤ length (now message) ⌝ }
 {
-    octets::runs::copy(message, 52, b"\xFESMB");
-    octets::runs::copy(message, 92, b"\x05");
+    runs::copy(message, 52, b"\xFESMB");
+    runs::copy(message, 92, b"\x05");
     let key = [0u8; 16];
     let mut counter: u64 = 0;
     let mut headers: u64 = 0;

@@ -15,11 +15,11 @@ passed : (c : tie.Else1)
     → let a = c .before .before .before .before .before .args in First (protectionOf (a .dialect) (a .encryption) (a .cipher)) (a .key .now) (a .message .now)
 passed c =
     let a = c .before .before .before .before .before .args in
-    first-passed (protectionOf (a .dialect) (a .encryption) (a .cipher)) (a .key .now) (a .message .now) _ (c .before .first-number .ensures)
+    first-passed (protectionOf (a .dialect) (a .encryption) (a .cipher)) (a .key .now) (a .message .now) _ (c .before .seal-under-number .ensures)
     (c .if1 .left)
 
-first-number-requires : tie.Need-first-number-requires
-first-number-requires c κs = search needs
+seal-under-number-requires : tie.Need-seal-under-number-requires
+seal-under-number-requires c κs = search needs
 
 same-length : tie.Need-same-length
 same-length c = search needs
@@ -28,7 +28,7 @@ returns : tie.Need-returns
 returns c =
     let a = c .before .before .before .before .before .args in
     first-refuses (protectionOf (a .dialect) (a .encryption) (a .cipher)) (a .key .now) (a .id) (a .counter) (a .message .now) _
-    (c .before .first-number .ensures) (c .if1 .taken)
+    (c .before .seal-under-number .ensures) (c .if1 .taken)
 
 walk-inner-requires : tie.Need-walk-inner-requires
 walk-inner-requires c κs =
@@ -66,7 +66,7 @@ bytes-16-requires : tie.Need-bytes-16-requires
 bytes-16-requires c κs = let f = passed (c .before .before .before .before .before) .key-fits in omega arith
 
 cipher-used-requires : tie.Need-cipher-used-requires
-cipher-used-requires c κs = passed (c .before .before .before .before .before .before) .on
+cipher-used-requires c κs = search needs
 
 seal-message-requires : tie.Need-seal-message-requires
 seal-message-requires c κs =
@@ -95,7 +95,7 @@ pub seal-under-spec : {M : Type 1} → statement M
 seal-under-spec =
     tie.close
     (tie.spec
-    first-number-requires
+    seal-under-number-requires
     same-length
     returns
     walk-inner-requires
