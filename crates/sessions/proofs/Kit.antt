@@ -1,4 +1,4 @@
--- What the walks use of the logic, passed on under one name. It says nothing of the crate.
+-- What the walks use of the logic, passed on under one name.
 pub use mathlib.Core.Path.{_∙_, _≡_, ap, refl, subst, sym}
 pub use mathlib.Core.List.{List, [], _∷_}
 pub use mathlib.Core.Bool.{Bool, false, true}

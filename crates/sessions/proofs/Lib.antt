@@ -2,6 +2,7 @@ pub mod Calls
 pub mod Kit
 pub mod Said
 pub mod Shared
+pub mod PlaceLaws
 pub mod StepLaws
 pub mod TableLink
 pub mod Walk

@@ -1,10 +1,10 @@
--- What sealing and opening with the table come to, from what the callees say of the record that lookup took.
+-- What each function of the table says, from what its callees say: the mathematics of the walks.
 -- Assumes nothing.
 use mathlib.Core.Path.{_≡_, refl, sym, ap, subst, _∙_}
 use mathlib.Core.Bool.{Bool, true, false, cond, not}
 use mathlib.Core.List.{List, [], _∷_, _++_}
 use mathlib.Core.Option.{Option·getD}
-use Prim.Native.Nat.{ℕ, zero, suc, _<_, _^_}
+use Prim.Native.Nat.{ℕ, _<_, _^_}
 use native.Mathlib.Omega.{arith}
 use lib.Dec.{eqb, leb, ltb}
 use lib.ListN.{length, getD, set, take}
@@ -22,22 +22,16 @@ use Rattle.session.specs.declared.Adding.{Adding}
 use Rattle.session.specs.declared.Changed.{Changed}
 use Rattle.session.specs.Records.{free, sessionOf}
 use Rattle.session.specs.Adds.{addingOf, addTestsWith, AddsWith}
-use Rattle.session.specs.OneRecord.{sealWith, SealsWith, counterMoves, OpensWith, namedId}
+use Rattle.session.specs.OneRecord.{sealWith, SealsWith, counterMoves, OpensWith, namedId, removedOf}
 use Rattle.sessions.specs.Reading.{tableOf}
-use Rattle.sessions.specs.Place.{placeOf, freePlace}
 use Rattle.sessions.specs.Calls.{AddsInTable, SealsInTable, OpensInTable}
-use Rattle.sessions.proofs.TableLink.{reads, changes, fills, has-free}
+use Rattle.sessions.proofs.PlaceLaws.{placeOf, freePlace}
+use Rattle.sessions.proofs.TableLink.{reads, changes, fills, has-free, keeps}
 use Rattle.sessions.proofs.StepLaws.{unchanged, change-alike, step-none, step-one}
 
 -- what lookup took
 pub taken : (ys : List Session) (id i : ℕ) (s : Session) → i ≡ placeOf id ys → s ≡ getD ys i free → sessionOf s ≡ protocol.recordOf id (tableOf ys)
 taken ys id i s e e′ = ap sessionOf (e′ ∙ ap (λ (k : ℕ). getD ys k free) e) ∙ sym (reads id ys)
-
--- a record that reads as the one that stood there
-put-back : (ys : List Session) (i : ℕ) (new : Session) → sessionOf new ≡ sessionOf (getD ys i free) → tableOf (set ys i new) ≡ tableOf ys
-put-back [] i new e = refl
-put-back (y ∷ ys) zero new e = ap (λ (s : protocol.Session). s ∷ tableOf ys) e
-put-back (y ∷ ys) (suc i) new e = ap (λ (r : List protocol.Session). sessionOf y ∷ r) (put-back ys i new e)
 
 -- the counter step
 pub stepped-says : (ys zs : List Session) (by id i : ℕ) (s new : Session) → i ≡ placeOf id ys → s ≡ getD ys i free → sessionOf new ≡ counterStep by (sessionOf s) → zs ≡ set ys i new → tableOf zs ≡ protocol.changeRecord (counterStep by) id (tableOf ys)
@@ -45,10 +39,23 @@ stepped-says ys zs by id i s new e e′ en ez =
     ap tableOf (ez ∙ ap (λ (k : ℕ). set ys k new) e)
     ∙ sym (changes (counterStep by) id ys new (en ∙ ap (λ (x : Session). counterStep by (sessionOf x)) (e′ ∙ ap (λ (k : ℕ). getD ys k free) e)))
 
+-- removing
+pub removed-says : (ys zs : List Session) (id i : ℕ) (s : Session) (t : Changed) → i ≡ placeOf id ys → s ≡ getD ys i free → t ≡ removedOf s → zs ≡ set ys i (t .session)
+    → (t .number ≡ protocol.removeNumber id (tableOf ys)) × (tableOf zs ≡ protocol.tableAfterRemoving id (tableOf ys))
+unfolding removedOf
+removed-says ys zs id i s t e e′ et ez = (
+    ap (λ (z : Changed). z .number) et ∙ six-or-zero (s .used) ∙ ap (λ (x : protocol.Session). cond (not (x .used)) 6 0) (taken ys id i s e e′),
+    ap tableOf (ez ∙ (λ j. set ys (e j) (et j .session))) ∙ sym (changes (λ x. protocol.freeRecord) id ys free refl),
+  )
+  where
+    six-or-zero : (b : Bool) → _≡_ {A = ℕ} (cond b 0 6) (cond (not b) 6 0)
+    six-or-zero true = refl
+    six-or-zero false = refl
+
 -- adding
 filled : (b : Bool) (made : protocol.Session) (ys : List Session) (new : Session) → sessionOf new ≡ cond b made (sessionOf (getD ys (freePlace ys) free)) → tableOf (set ys (freePlace ys) new) ≡ cond b (protocol.fillFree made (tableOf ys)) (tableOf ys)
 filled true made ys new e = sym (fills new ys) ∙ ap (λ (s : protocol.Session). protocol.fillFree s (tableOf ys)) e
-filled false made ys new e = put-back ys (freePlace ys) new e
+filled false made ys new e = keeps ys (freePlace ys) new e
 
 pub added-says : (ys zs : List Session) (x : Adding) (material chain : Bytes) (i f : ℕ) (there old : Session) (t : Changed) → i ≡ placeOf (x .id) ys → there ≡ getD ys i free → f ≡ freePlace ys → old ≡ getD ys f free
     → AddsWith (addingOf x chain material) (there .used) (ltb f (length ys)) (sessionOf old) (t .number) (sessionOf (t .session)) → zs ≡ set ys f (t .session)

@@ -1,4 +1,4 @@
--- `sessions::at` meets its contract: a walk of its MIR, by hand. Where the place is within the table the record is copied out; past the end `vacant` makes a free one, which is what `getD` says there.
+-- Right because within the table the record is copied out, and past the end `vacant` makes a free one, which is what `getD` says there. A walk of the MIR, by hand.
 -- Assumes nothing.
 use Rattle.sessions.proofs.Kit.{_≡_, refl, sym, _∙_, ℕ, _<_, _^_, _*_, List, [], _∷_, length, getD, ltb→lt, nltb→le, URA, fullShare, named, w64, tyPtr, Val, vint, vptr, SProp, ent, emp, via, id⊢, exE, fst∗, snd∗, Lft, GName, Share, Fml, ftrue, fat, flft, Memory, Routine, Heap, Calls, Loops, WpFn, Tables, Atoms, sem, Fun, fact, givenOf, tables, tablesOf, Given, ‵, raw, some, later, _⊛_, ⋆, atRet, _$_, _∵_, !, qed, by, move, keep, drop, use0, use1, split, join, pick, rewrite, fsplit, fjoin, suffices, frame, await, done, whole, sub, look-in, look, look-raw, init, forget, stop, hop, fld, from, load, lit, of-opd, bin, assigns, assigns-last, first, branches, land-last, no-more, returns, enter, alloc1, alloc0, params1, pass1, pass0, free1, free0, exec, FmC, fmOf, WpFn-mono, owns, Is, shows, uint-makes, uint-vals, uint-tells, usize, RefT, now, sliceVal, ShrSlice, Room, slice-vals, shr-slice-tells, place-is, elem-back, shuts-slice, plain, owned, nothing, heard, facts, calls-at-last, ensured, lasts, Vals, onEntry, Meets, tripleOf, Contract, Triple, entered, cited, says, Stays, stay-none, stay-none-slice, walkOf, goes-none, goes-none-slice, Walks, ends-at, walked, walk-meets, yes}
 use Rattle.session.specs.declared.Session.{Session}

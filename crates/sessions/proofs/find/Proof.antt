@@ -1,4 +1,4 @@
--- `sessions::find` meets its contract: a walk of its MIR, by hand. It is a `while` over the places, each turn of which copies the record out and asks `wanted`, which is covered.
+-- Right because the search stops at the first record that `wanted` holds of, or at the end. A walk of the MIR, by hand: a `while` over the places, each turn of which copies the record out and asks `wanted`.
 -- The walk looks at no field of a record: it goes by what `wanted` ensures.
 --     At       the loop's context, at a place that the search has come to.        turns    a turn: `over` leaves the loop, `more` asks of the record, and returns its place or goes on
 -- Assumes nothing.
@@ -47,7 +47,8 @@ use denote.Triple.Walked.{says, Stays, stay-none, stay-none-slice, walkOf, goes-
 use denote.Exit.{yes}
 use Rattle.session.specs.declared.Session.{Session}
 use Rattle.session.specs.Records.{free, isWanted}
-use Rattle.sessions.specs.Place.{first as first-of, first-here, first-later, first-none}
+use Rattle.sessions.specs.Place.{first as first-of}
+use Rattle.sessions.proofs.PlaceLaws.{first-here, first-later, first-none}
 use Rattle.sessions.proofs.Walk.{R, mach, size, place-fits, is-true, is-false, word, ref, typed, looks-table, record-out, record-owned}
 use Rattle.session.proofs.Session.Laws as T′
 use Rattle.session.proofs.wanted as wanted

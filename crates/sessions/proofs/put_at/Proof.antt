@@ -1,4 +1,4 @@
--- `sessions::put_at` meets its contract: a walk of its MIR, by hand. Where the place is within the table the record is stored there; past the end `set` changes nothing either.
+-- Right because within the table the record is stored at its place, and past the end `set` changes nothing either. A walk of the MIR, by hand.
 -- Assumes nothing.
 use Rattle.sessions.proofs.Kit.{_≡_, refl, sym, ap, subst, ℕ, _<_, _^_, _*_, List, [], _∷_, length, set, length-set, ltb→lt, nltb→le, URA, fullShare, named, w64, tyPtr, Val, vunit, vint, vptr, SProp, ent, emp, via, fst∗, Lft, GName, Share, ftrue, fat, flft, fobs, fbor, Memory, Routine, Heap, Calls, Loops, WpFn, Tables, Atoms, Fun, givenOf, tables, tablesOf, Given, ‵, _⊛_, ⋆, atRet, _$_, _∵_, !, qed, by, move, keep, drop, split, join, rewrite, fsplit, fjoin, feqI, suffices, frame, done, whole, sub, look-in, look, init, store-raw, forget, stop, hop, fld, from, load, lit, unit-lit, of-opd, bin, assigns, assigns-last, first, skips, branches, returns, enter, alloc1, alloc0, params1, pass1, pass0, free1, free0, exec, WpFn-mono, owns, pureI, Is, uint-makes, uint-vals, uint-tells, usize, RefT, now, sliceVal, MutSlice, Room, heres, codedHoleys, at-slice, slice-vals, mut-slice-tells, Held, place-is, elem-put, opens-slice, closes-slice, plain, owned, nothing, Vals, onEntry, Meets, tripleOf, entered, says, Stays, stay-none, stay-slice, walkOf, goes-none, goes-slice, Walks, ends-at, walked, walk-meets, yes}
 use denote.Struct.Laws as LL

@@ -1,18 +1,16 @@
--- `sessions::remove` meets its contract: a walk of its MIR, by hand. The table is lent as `&` for `find` and `at`, comes back, and goes to `put_at` for good.
+-- Right because a free record is put in the place of the one that lookup takes, and the number tells whether that was used. A walk of the MIR, by hand: the table is lent as `&` for `find` and `at`, comes back, and goes to `put_at` for good.
 -- Assumes nothing.
 use Rattle.sessions.proofs.Kit.{_≡_, refl, sym, _∙_, ap, ℕ, _<_, _^_, true, List, [], _∷_, length, getD, set, URA, fullShare, named, w32, w64, Val, vint, SProp, ent, emp, via, id⊢, fst∗, Lft, GName, Share, ftrue, flft, Memory, Routine, Heap, Calls, Loops, WpFn, Tables, Atoms, Fun, givenOf, tables, tablesOf, Given, ‵, raw, _⊛_, ⋆, _$_, _∵_, !, qed, by, move, drop, use0, split, join, fsplit, fjoin, suffices, frame, done, whole, sub, look-in, agg, look, init, forget, stop, hop, fld, from, load, true-lit, of-opd, addr, assigns, land, no-more, and-then, returns, enter, alloc1, alloc0, params1, pass1, pass0, free1, free0, FmC, fmOf, WpFn-mono, owns, Is, uint-makes, uint-vals, uint-tells, uint-lawful, u64, u32, RefT, now, sliceVal, MutSlice, Room, finally, slice-vals, mut-slice-tells, plain, owned, nothing, Vals, onEntry, Meets, tripleOf, Contract, Triple, entered, cited, says, Stays, stay-none, gave-slice, walkOf, goes-none, goes-gave-slice, Walks, ends-at, walked, walk-meets, yes}
 use denote.Struct.Laws as LL
 use Rattle.session.specs.declared.Session.{Session}
 use Rattle.session.specs.declared.Changed.{Changed}
-use Rattle.session.specs.Records.{free}
 use Rattle.session.specs.OneRecord.{removedOf}
-use Rattle.sessions.specs.Place.{placeOf, recordOf}
 use Rattle.session.proofs.Changed as Ch
 use Rattle.session.proofs.Changed.Laws as Ch′
 use Rattle.sessions.proofs.Walk.{R, mach, typed, record-owned}
 use Rattle.protocol.specs.SessionTable.{removeNumber, tableAfterRemoving}
 use Rattle.sessions.specs.Reading.{tableOf}
-use Rattle.sessions.proofs.TableLink.{removes, remove-number}
+use Rattle.sessions.proofs.TableCalls.{removed-says}
 use Rattle.sessions.proofs.Said.{calls-said}
 use Rattle.sessions.proofs.Calls.{ref-at, lend, back, Finds, Gets, Puts, calls-find, calls-get, calls-put}
 use Rattle.sessions.proofs.find.Symbol as find-def
@@ -48,13 +46,6 @@ module _ {M : Type 1} (𝓤 : URA M) (H : Heap 𝓤) (A : Atoms 𝓤) (mem : Mem
 
   asks-remove : Given 𝓤 H A → (s : Session) → Is R s (mach s ∷ []) → ent 𝓤 (emp 𝓤) (Removes .pre (to-remove s))
   asks-remove W s gs = qed W [] ∵ nothing ! $ record-owned ! s _ gs $ fjoin ! $ nothing ! $ join ! $ frame ! $ done !
-
--- what the contract says, from what the callees say
-removed-says : (ys zs : List Session) (id i : ℕ) (s : Session) (t : Changed) → i ≡ placeOf id ys → s ≡ getD ys i free → t ≡ removedOf s → zs ≡ set ys i (t .session)
-    → (t .number ≡ removeNumber id (tableOf ys)) × (tableOf zs ≡ tableAfterRemoving id (tableOf ys))
-removed-says ys zs id i s t e e′ et ez =
-    let at-t : t ≡ removedOf (recordOf id ys) = et ∙ ap removedOf (e′ ∙ ap (λ (k : ℕ). getD ys k free) e) in
-    (ap (λ (z : Changed). z .number) at-t ∙ sym (remove-number id ys), ap tableOf (ez ∙ (λ j. set ys (e j) (at-t j .session))) ∙ sym (removes id ys))
 
 module _ {M : Type 1} (𝓤 : URA M) (H : Heap 𝓤) (A : Atoms 𝓤) (W : Given 𝓤 H A) (mem : Memory → SProp 𝓤) (run : Routine → Fun 𝓤) (κ : Lft) (q : Share) (b o : ℕ) (γ : GName) (ys : List Session) (id : ℕ) (room : Room R (length ys)) (id-fits : id < 2 ^ 64) where
   abbrev a : RefT (List Session) × (ℕ × Unit {0})
