@@ -27,7 +27,6 @@ use types.Share.{arr-parts}
 use denote.RattleType.{RattleType}
 use denote.Laws.{Is, shows}
 use denote.Memory.{mem, shares, cellAt, pointee}
-use denote.Slice.{sliceTy}
 use denote.Index.{place, others, row, elem-out, looks-slice}
 use denote.Steps.{owned}
 use denote.Struct.Laws as LL

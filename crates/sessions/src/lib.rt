@@ -5,7 +5,7 @@ use session::Adding;
 use session::Connection;
 use session::Session;
 ghost use mathlib.Core.Path.{_≡_};
-ghost use lib.ListN.{length, set, getD};
+ghost use lib.ListN.{set, getD};
 ghost use Rattle.protocol.specs.SessionTable.{recordOf, changeRecord, removeNumber, tableAfterRemoving};
 ghost use Rattle.protocol.specs.Transform.{counterStep};
 ghost use Rattle.compound.specs.Outcomes.{answerOf};

@@ -1,6 +1,6 @@
 -- Right because the place written is the first free one, and what goes there is the new record, or what stood there where a test refuses. A walk of the MIR, by hand: the table is lent as `&` for two searches, comes back, and goes to `put_at` for good; `add_record` has a copy of each of the two `&[u8]`.
 -- Assumes nothing.
-use Rattle.sessions.proofs.Kit.{_≡_, refl, _∙_, ap, ℕ, Bool, true, false, List, [], _∷_, length, getD, set, ltb, lit<, URA, fullShare, named, Val, vbool, SProp, ent, sep, emp, via, id⊢, fst∗, Lft, GName, Share, ftrue, flft, Memory, Routine, Heap, Calls, Loops, WpFn, Tables, Atoms, sem, Fun, givenOf, tables, tablesOf, Given, ‵, raw, _⊛_, ⋆, _$_, _∵_, !, qed, by, move, keep, drop, use1, use2, split, join, fsplit, fjoin, suffices, frame, done, whole, sub, look-in, agg, look, init, forget, stop, hop, fld, from, load, lit, true-lit, false-lit, of-opd, bin, addr, assigns, land, no-more, and-then, returns, enter, alloc1, alloc0, params1, pass1, pass0, free1, free0, FmC, fmOf, WpFn-mono, owns, Is, Boolean, bool-makes, uint-makes, uint-lawful, u8, RefT, now, sliceVal, MutSlice, ShrSlice, Room, finally, slice-vals, mut-slice-tells, shr-slice-tells, shr-slice-copy, plain, owned, nothing, Vals, onEntry, Meets, tripleOf, Contract, Triple, entered, cited, says, Stays, stay-none, stay-none-slice, gave-slice, walkOf, goes-none, goes-none-slice, goes-gave-slice, Walks, ends-at, walked, walk-meets, yes, u32, w32}
+use Rattle.sessions.proofs.Kit.{_≡_, refl, ℕ, Bool, true, false, List, [], _∷_, length, ltb, lit<, URA, fullShare, named, Val, vbool, SProp, ent, sep, emp, via, id⊢, fst∗, Lft, GName, Share, ftrue, flft, Memory, Routine, Heap, Calls, Loops, WpFn, Tables, Atoms, sem, Fun, givenOf, tables, tablesOf, Given, ‵, raw, _⊛_, ⋆, _$_, _∵_, !, qed, by, move, keep, drop, use1, use2, split, join, fsplit, fjoin, suffices, frame, done, whole, sub, look-in, agg, look, init, forget, stop, hop, fld, from, load, lit, true-lit, false-lit, of-opd, bin, addr, assigns, land, no-more, and-then, returns, enter, alloc1, alloc0, params1, pass1, pass0, free1, free0, FmC, fmOf, WpFn-mono, owns, Is, Boolean, bool-makes, uint-makes, uint-lawful, u8, RefT, now, sliceVal, MutSlice, ShrSlice, Room, finally, slice-vals, mut-slice-tells, shr-slice-tells, shr-slice-copy, plain, owned, nothing, Vals, onEntry, Meets, tripleOf, Contract, Triple, entered, cited, says, Stays, stay-none, stay-none-slice, gave-slice, walkOf, goes-none, goes-none-slice, goes-gave-slice, Walks, ends-at, walked, walk-meets, yes, u32, w32}
 use denote.Struct.Laws as LL
 use Rattle.session.specs.declared.Session.{Session}
 use Rattle.session.specs.declared.Changed.{Changed}

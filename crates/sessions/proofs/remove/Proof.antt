@@ -1,6 +1,6 @@
 -- Right because a free record is put in the place of the one that lookup takes, and the number tells whether that was used. A walk of the MIR, by hand: the table is lent as `&` for `find` and `at`, comes back, and goes to `put_at` for good.
 -- Assumes nothing.
-use Rattle.sessions.proofs.Kit.{_≡_, refl, sym, _∙_, ap, ℕ, _<_, _^_, true, List, [], _∷_, length, getD, set, URA, fullShare, named, w32, w64, Val, vint, SProp, ent, emp, via, id⊢, fst∗, Lft, GName, Share, ftrue, flft, Memory, Routine, Heap, Calls, Loops, WpFn, Tables, Atoms, Fun, givenOf, tables, tablesOf, Given, ‵, raw, _⊛_, ⋆, _$_, _∵_, !, qed, by, move, drop, use0, split, join, fsplit, fjoin, suffices, frame, done, whole, sub, look-in, agg, look, init, forget, stop, hop, fld, from, load, true-lit, of-opd, addr, assigns, land, no-more, and-then, returns, enter, alloc1, alloc0, params1, pass1, pass0, free1, free0, FmC, fmOf, WpFn-mono, owns, Is, uint-makes, uint-vals, uint-tells, uint-lawful, u64, u32, RefT, now, sliceVal, MutSlice, Room, finally, slice-vals, mut-slice-tells, plain, owned, nothing, Vals, onEntry, Meets, tripleOf, Contract, Triple, entered, cited, says, Stays, stay-none, gave-slice, walkOf, goes-none, goes-gave-slice, Walks, ends-at, walked, walk-meets, yes}
+use Rattle.sessions.proofs.Kit.{_≡_, refl, ℕ, _<_, _^_, true, List, [], _∷_, length, URA, fullShare, named, w32, w64, Val, vint, SProp, ent, emp, via, id⊢, fst∗, Lft, GName, Share, ftrue, flft, Memory, Routine, Heap, Calls, Loops, WpFn, Tables, Atoms, Fun, givenOf, tables, tablesOf, Given, ‵, raw, _⊛_, ⋆, _$_, _∵_, !, qed, by, move, drop, use0, split, join, fsplit, fjoin, suffices, frame, done, whole, sub, look-in, agg, look, init, forget, stop, hop, fld, from, load, true-lit, of-opd, addr, assigns, land, no-more, and-then, returns, enter, alloc1, alloc0, params1, pass1, pass0, free1, free0, FmC, fmOf, WpFn-mono, owns, Is, uint-makes, uint-vals, uint-tells, uint-lawful, u64, u32, RefT, now, sliceVal, MutSlice, Room, finally, slice-vals, mut-slice-tells, plain, owned, nothing, Vals, onEntry, Meets, tripleOf, Contract, Triple, entered, cited, says, Stays, stay-none, gave-slice, walkOf, goes-none, goes-gave-slice, Walks, ends-at, walked, walk-meets, yes}
 use denote.Struct.Laws as LL
 use Rattle.session.specs.declared.Session.{Session}
 use Rattle.session.specs.declared.Changed.{Changed}
