@@ -19,7 +19,7 @@ pub use contract.Monad.{Fun, fact}
 unfoldable pub use contract.Running.{givenOf, tables, tablesOf}
 pub use types.Kit.{ !, Given, _$_, _∵_, _⊛_, atRet, await, by, done, drop, feqI, feqL, fjoin, frame, fsplit, join, keep, later, move, pick, qed, raw, rewrite, some, split, suffices, use0, use1, use2, ‵, ⋆}
 pub use types.Part.{agg, look-in, sub, whole}
-pub use types.Run.{addr, alloc0, alloc1, and-then, assigns, assigns-last, bin, branches, enter, exec, false-lit, first, fld, forget, free0, free1, from, hop, init, land, land-last, lit, load, look, look-raw, no-more, of-opd, params1, pass0, pass1, returns, skips, stop, store-raw, true-lit, unit-lit}
+pub use types.Run.{addr, alloc0, alloc1, and-then, assigns, assigns-last, bin, branches, enter, exec, false-lit, first, fld, from, hop, init, land, land-last, lit, load, look, look-raw, no-more, of-opd, params1, pass0, pass1, returns, skips, stop, store-raw, true-lit, unit-lit}
 pub use sound.WpLaws.{FmC, WpFn-mono, fmOf}
 pub use denote.RattleType.{owns}
 pub use denote.Shadow.{pureI}
@@ -35,7 +35,7 @@ pub use denote.Steps.{facts, heard, nothing, owned}
 pub use denote.Triple.Entry.{Vals, onEntry}
 pub use denote.Triple.Spec.{Meets, tripleOf}
 pub use denote.Triple.Table.{cited, entered}
-pub use denote.Triple.Walked.{Stays, Walks, ends-at, gave-slice, goes-gave-slice, goes-none, goes-none-slice, goes-slice, says, stay-none, stay-none-slice, stay-slice, walk-meets, walkOf, walked}
+pub use denote.Triple.Walked.{Stays, ends-at, gave-slice, goes-gave-slice, goes-none, goes-none-slice, goes-slice, says, stay-none, stay-none-slice, stay-slice, walk-meets, walkOf, walked}
 pub use denote.Exit.{yes}
 pub use denote.Triple.Statement.{Contract, Triple}
 pub use denote.Triple.Call.{calls-at-last}

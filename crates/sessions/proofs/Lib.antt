@@ -1,5 +1,6 @@
 pub mod Calls
 pub mod Kit
+pub mod Leaving
 pub mod Said
 pub mod Shared
 pub mod PlaceLaws

@@ -44,9 +44,9 @@ pub removed-says : (ys zs : List Session) (id i : ℕ) (s : Session) (t : Change
     → (t .number ≡ protocol.removeNumber id (tableOf ys)) × (tableOf zs ≡ protocol.tableAfterRemoving id (tableOf ys))
 unfolding removedOf
 removed-says ys zs id i s t e e′ et ez = (
-    ap (λ (z : Changed). z .number) et ∙ six-or-zero (s .used) ∙ ap (λ (x : protocol.Session). cond (not (x .used)) 6 0) (taken ys id i s e e′),
-    ap tableOf (ez ∙ (λ j. set ys (e j) (et j .session))) ∙ sym (changes (λ x. protocol.freeRecord) id ys free refl),
-  )
+  ap (λ (z : Changed). z .number) et ∙ six-or-zero (s .used) ∙ ap (λ (x : protocol.Session). cond (not (x .used)) 6 0) (taken ys id i s e e′),
+  ap tableOf (ez ∙ (λ j. set ys (e j) (et j .session))) ∙ sym (changes (λ x. protocol.freeRecord) id ys free refl),
+)
   where
     six-or-zero : (b : Bool) → _≡_ {A = ℕ} (cond b 0 6) (cond (not b) 6 0)
     six-or-zero true = refl

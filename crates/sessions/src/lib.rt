@@ -5,14 +5,13 @@ use session::Adding;
 use session::Connection;
 use session::Session;
 ghost use mathlib.Core.Path.{_≡_};
-ghost use lib.ListN.{set, getD};
 ghost use Rattle.protocol.specs.SessionTable.{recordOf, changeRecord, removeNumber, tableAfterRemoving};
 ghost use Rattle.protocol.specs.Transform.{counterStep};
 ghost use Rattle.compound.specs.Outcomes.{answerOf};
-ghost use Rattle.session.specs.Records.{free, isWanted, sessionOf, connectionOf};
+ghost use Rattle.session.specs.Records.{isWanted, sessionOf, connectionOf};
 ghost use Rattle.session.specs.Adds.{addingOf};
 ghost use Rattle.sessions.specs.Reading.{tableOf};
-ghost use Rattle.sessions.specs.Place.{first};
+ghost use Rattle.sessions.specs.Place.{first, recordAt, putAt};
 ghost use Rattle.sessions.specs.Calls.{AddsInTable, SealsInTable, OpensInTable};
 
 // The place of the first record that is wanted, or the table's length where there is none.
@@ -32,7 +31,7 @@ fn find(table: &[Session], used: bool, id: u64) -> usize
 
 // The record at a place, or a free one past the end.
 fn at(table: &[Session], i: usize) -> Session
-    ensures { λ r. ⌜ r ≡ getD (now (table .entry)) i free ⌝ }
+    ensures { λ r. ⌜ r ≡ recordAt i (now (table .entry)) ⌝ }
 {
     if i < table.len() {
         table[i]
@@ -43,7 +42,7 @@ fn at(table: &[Session], i: usize) -> Session
 
 // A record to a place; past the end nothing changes.
 fn put_at(table: &mut [Session], i: usize, s: Session)
-    ensures { λ _. ⌜ now (table .exit) ≡ set (now (table .entry)) i s ⌝ }
+    ensures { λ _. ⌜ now (table .exit) ≡ putAt i s (now (table .entry)) ⌝ }
 {
     if i < table.len() {
         table[i] = s;

@@ -26,7 +26,7 @@ use contract.Monad.{Fun, fact}
 use contract.Running.{givenOf, tables, tablesOf}
 use types.Kit.{Given, Item, ‵, raw, _⊛_, some, later, ⋆, runs, anyQ, atRet, Sq, _$_, _∵_, !, qed, by, move, drop, use0, use1, split, join, pick, rewrite, fsplit, fjoin, suffices, frame, await, done}
 use types.Part.{whole, sub, look-in}
-use types.Run.{look, look-raw, init, store, forget, stop, hop, fld, from, load, lit, of-opd, bin, assigns, assigns-last, first, skips, blocks, branches, stays, leaves-loop, land, no-more, and-then, returns, returns-within, enter, alloc1, alloc0, params1, pass1, pass0, free1, free0, exec, Below, again, loops}
+use types.Run.{look, look-raw, init, store, forget, stop, hop, fld, from, load, lit, of-opd, bin, assigns, assigns-last, first, skips, blocks, branches, stays, leaves-loop, land, no-more, and-then, returns, returns-within, enter, alloc1, alloc0, params1, pass1, pass0, exec, Below, again, loops}
 use sound.WpLaws.{fmOf, WpFn-mono}
 use denote.RattleType.{owns}
 use denote.Laws.{Is, shows}
@@ -50,6 +50,7 @@ use Rattle.session.specs.Records.{free, isWanted}
 use Rattle.sessions.specs.Place.{first as first-of}
 use Rattle.sessions.proofs.PlaceLaws.{first-here, first-later, first-none}
 use Rattle.sessions.proofs.Walk.{R, mach, size, place-fits, is-true, is-false, word, ref, typed, looks-table, record-out, record-owned}
+use Rattle.sessions.proofs.Leaving.{leaves, holds, empty}
 use Rattle.session.proofs.Session.Laws as T′
 use Rattle.session.proofs.wanted as wanted
 use Rattle.session.proofs.wanted.Symbol as wanted-def
@@ -153,9 +154,7 @@ module _ {M : Type 1} (𝓤 : URA M) (H : Heap 𝓤) (A : Atoms 𝓤) (W : Given
             rewrite ! 6 (λ (t : Bool). ‵ (fat fullShare tyBool l₇ 0 (vbool t))) over refl $
             leaves-loop ! (load ! (from ! (stop !)) (look ! 6 refl)) $ exec ! C Λ En code.Mir.t-3 (atRet En Post) $
             assigns ! (of-opd ! (load ! (from ! (stop !)) (look ! 12 refl))) (from ! (stop !)) (init ! 20 refl (tt, record { fits = fits })) $
-            returns ! (look ! 20 refl) $ forget ! 6 refl $ forget ! 8 refl $ forget ! 12 refl $ forget ! 14 refl $ forget ! 16 refl $ forget ! 18 refl $ forget ! 20 refl $
-            move ! (20 ∷ 21 ∷ []) $ free1 ! $ move ! (18 ∷ 19 ∷ []) $ free1 ! $ move ! (16 ∷ 17 ∷ []) $ free1 ! $ move ! (14 ∷ 15 ∷ []) $ free1 ! $ move ! (12 ∷ 13 ∷ []) $ free1 ! $ move ! (10 ∷ 11 ∷ []) $ free1 ! $
-            move ! (8 ∷ 9 ∷ []) $ free1 ! $ move ! (6 ∷ 7 ∷ []) $ free1 ! $ move ! (4 ∷ 5 ∷ []) $ free1 ! $ move ! (2 ∷ 3 ∷ []) $ free1 ! $ free0 ! $
+            returns ! (look ! 20 refl) $ leaves ! 2 (holds _ ∷ holds _ ∷ holds _ ∷ holds _ ∷ holds _ ∷ empty ∷ holds _ ∷ holds _ ∷ []) refl $
             by ! (exits (i .0) (first-none (isWanted used id) ys (i .0) (i .1 .1) end) fits)
         by-test true less =
             let l : i .0 < n = ltb-true (i .0) n less in
@@ -189,9 +188,7 @@ module _ {M : Type 1} (𝓤 : URA M) (H : Heap 𝓤) (A : Atoms 𝓤) (W : Given
             first ! $ branches ! (load ! (from ! (stop !)) (look ! 6 refl))
             (λ held.
             assigns ! (of-opd ! (load ! (from ! (stop !)) (look ! 12 refl))) (from ! (stop !)) (init ! 20 refl (tt, record { fits = fits })) $
-            returns-within ! Post refl (look ! 20 refl) $ forget ! 2 refl $ forget ! 4 refl $ forget ! 6 refl $ forget ! 8 refl $ forget ! 10 refl $ forget ! 12 refl $ forget ! 14 refl $ forget ! 16 refl $ forget ! 18 refl $ forget ! 20 refl $
-            move ! (20 ∷ 21 ∷ []) $ free1 ! $ move ! (18 ∷ 19 ∷ []) $ free1 ! $ move ! (16 ∷ 17 ∷ []) $ free1 ! $ move ! (14 ∷ 15 ∷ []) $ free1 ! $ move ! (12 ∷ 13 ∷ []) $ free1 ! $ move ! (10 ∷ 11 ∷ []) $ free1 ! $
-            move ! (8 ∷ 9 ∷ []) $ free1 ! $ move ! (6 ∷ 7 ∷ []) $ free1 ! $ move ! (4 ∷ 5 ∷ []) $ free1 ! $ move ! (2 ∷ 3 ∷ []) $ free1 ! $ free0 ! $
+            returns-within ! Post refl (look ! 20 refl) $ leaves ! 2 (holds _ ∷ holds _ ∷ holds _ ∷ holds _ ∷ holds _ ∷ holds _ ∷ holds _ ∷ holds _ ∷ holds _ ∷ holds _ ∷ []) refl $
             by ! (exits (i .0) (first-here (isWanted used id) ys (i .0) (i .1 .1) l (sym e ∙ is-true r held)) fits))
             (λ failed. skips ! $ exec ! C Λ En on (anyQ (Turned i)) $
             assigns-last ! (bin ! (load ! (from ! (stop !)) (look ! 12 refl)) (lit ! tt) (record { fits = nf })) (from ! (stop !)) (store ! 12 refl (tt, record { fits = nf })) $
