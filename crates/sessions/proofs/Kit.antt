@@ -18,8 +18,8 @@ pub use ghost.Atoms.{Atoms, sem}
 pub use contract.Monad.{Fun, fact}
 unfoldable pub use contract.Running.{givenOf, tables, tablesOf}
 pub use types.Kit.{ !, Given, _$_, _∵_, _⊛_, atRet, await, by, done, drop, feqI, feqL, fjoin, frame, fsplit, join, keep, later, move, pick, qed, raw, rewrite, some, split, suffices, use0, use1, use2, ‵, ⋆}
-pub use types.Part.{agg, look-in, sub, whole}
-pub use types.Run.{addr, alloc0, alloc1, and-then, assigns, assigns-last, bin, branches, enter, exec, false-lit, first, fld, from, hop, init, land, land-last, lit, load, look, look-raw, no-more, of-opd, params1, pass0, pass1, returns, skips, stop, store-raw, true-lit, unit-lit}
+pub use types.Part.{look-in, sub, whole}
+pub use types.Run.{alloc0, alloc1, and-then, assigns, assigns-last, bin, branches, enter, exec, false-lit, first, fld, from, hop, init, land, land-last, lit, load, look, look-raw, no-more, of-opd, params1, pass0, pass1, returns, skips, stop, store-raw, true-lit, unit-lit}
 pub use sound.WpLaws.{FmC, WpFn-mono, fmOf}
 pub use denote.RattleType.{owns}
 pub use denote.Shadow.{pureI}

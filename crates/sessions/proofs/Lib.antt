@@ -3,6 +3,7 @@ pub mod Kit
 pub mod Leaving
 pub mod Said
 pub mod Shared
+pub mod Operands
 pub mod PlaceLaws
 pub mod StepLaws
 pub mod TableLink

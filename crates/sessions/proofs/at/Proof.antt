@@ -7,6 +7,7 @@ use Rattle.session.specs.declared.Session.{Session}
 use Rattle.session.specs.Records.{free}
 use Rattle.sessions.proofs.Walk.{R, mach as mach-of, size, place-fits, get-past, word, ref, typed, looks-table, record-out, record-owned}
 use Rattle.sessions.proofs.Leaving.{Locals, leaves, holds}
+use Rattle.sessions.proofs.Operands.{local}
 use Rattle.session.proofs.Session.Laws as T′
 use Rattle.session.proofs.vacant as vacant
 use Rattle.session.proofs.vacant.Symbol as vacant-def
@@ -74,13 +75,13 @@ module _ {M : Type 1} (𝓤 : URA M) (H : Heap 𝓤) (A : Atoms 𝓤) (W : Given
         pass1 ! (init ! 14 refl (tt, (tt, (record { fits = room .0 }, tt)))) $ pass1 ! (init ! 12 refl (tt, record { fits = gi })) $ pass0 ! $
         -- [_8; …; _0; …; the token; what table and i own]
         assigns ! (of-opd ! (load ! (from ! (fld ! refl (stop !))) (look-in ! 14 (sub ! 1 refl (whole !))))) (from ! (stop !)) (init ! 10 refl (tt, record { fits = room .0 })) $
-        assigns ! (bin ! (load ! (from ! (stop !)) (look ! 12 refl)) (load ! (from ! (stop !)) (look ! 10 refl)) tt) (from ! (stop !)) (init ! 8 refl (tt, tt)) $
-        first ! $ branches ! (load ! (from ! (stop !)) (look ! 8 refl))
+        assigns ! (bin ! (local ! 12 refl) (local ! 10 refl) tt) (from ! (stop !)) (init ! 8 refl (tt, tt)) $
+        first ! $ branches ! (local ! 8 refl)
         (λ less.
         let l : i < length ys = ltb→lt i (length ys) less in
         let pf : i * size < 2 ^ 64 = place-fits i (length ys) l (room .1) in
-        assigns ! (bin ! (load ! (from ! (stop !)) (look ! 12 refl)) (lit ! tt) (record { fits = pf })) (from ! (stop !)) (init ! 4 refl (tt, record { fits = pf })) $
-        assigns ! (bin ! (load ! (from ! (fld ! refl (stop !))) (look-in ! 14 (sub ! 0 refl (whole !)))) (load ! (from ! (stop !)) (look ! 4 refl)) tt) (from ! (stop !)) (init ! 2 refl (tt, tt)) $
+        assigns ! (bin ! (local ! 12 refl) (lit ! tt) (record { fits = pf })) (from ! (stop !)) (init ! 4 refl (tt, record { fits = pf })) $
+        assigns ! (bin ! (load ! (from ! (fld ! refl (stop !))) (look-in ! 14 (sub ! 0 refl (whole !)))) (local ! 4 refl) tt) (from ! (stop !)) (init ! 2 refl (tt, tt)) $
         rewrite ! 2 (λ (p : ℕ). ‵ (fat fullShare tyPtr l₇ 0 (vptr b p))) (sym (place-is size o i)) refl $
         move ! (19 ∷ []) $ fsplit ! $ fsplit ! $ move ! (1 ∷ []) $ fsplit ! $ move ! (22 ∷ []) $ split ! $ move ! (3 ∷ 0 ∷ []) $
         looks-table ! tt ys b o (λ q′.
@@ -88,10 +89,10 @@ module _ {M : Type 1} (𝓤 : URA M) (H : Heap 𝓤) (A : Atoms 𝓤) (W : Given
         let wt = typed 𝓤 H A W elem mach g in
         -- [table[i]; what it owns; the others; what shuts; the fractured borrow; true; res; table's fact; i's; _8; …]
         assigns ! (of-opd ! (load ! (from ! (hop ! (look ! 11 refl) (stop !))) (look-raw ! 0 refl))) (from ! (stop !)) (init ! 9 refl wt) $
-        assigns-last ! (of-opd ! (load ! (from ! (stop !)) (look ! 9 refl))) (from ! (stop !)) (init ! 15 refl wt) $
+        assigns-last ! (of-opd ! (local ! 9 refl)) (from ! (stop !)) (init ! 15 refl wt) $
         exec ! C Λ (locals l₀ l₁ l₂ l₃ l₄ l₅ l₆ l₇ l₈) code.Mir.t-4 (atRet (locals l₀ l₁ l₂ l₃ l₄ l₅ l₆ l₇ l₈) Post) $
         elem-back ! R q′ ys i free (mach ∷ []) b o l $ shuts-slice ! tt R q′ ys b o $
-        assigns ! (of-opd ! (load ! (from ! (stop !)) (look ! 12 refl))) (from ! (stop !)) (init ! 22 refl wt) $
+        assigns ! (of-opd ! (local ! 12 refl)) (from ! (stop !)) (init ! 22 refl wt) $
         returns ! (look ! 22 refl) $ leaves ! 6 (holds _ ∷ holds _ ∷ holds _ ∷ holds _ ∷ holds _ ∷ holds _ ∷ holds _ ∷ holds _ ∷ holds _ ∷ []) refl $
         move ! (3 ∷ 1 ∷ []) $ fjoin ! $ move ! (3 ∷ 0 ∷ []) $ fjoin ! $ move ! (3 ∷ []) $ fsplit ! $ keep ! (3 ∷ 2 ∷ []) $ by ! (exits elem mach g refl))))
         (λ over.
@@ -103,7 +104,7 @@ module _ {M : Type 1} (𝓤 : URA M) (H : Heap 𝓤) (A : Atoms 𝓤) (W : Given
         let wt = typed 𝓤 H A W s u is in
         land-last ! (from ! (stop !)) (init ! 6 refl wt) $
         exec ! C Λ (locals l₀ l₁ l₂ l₃ l₄ l₅ l₆ l₇ l₈) code.Mir.t-4 (atRet (locals l₀ l₁ l₂ l₃ l₄ l₅ l₆ l₇ l₈) Post) $
-        assigns ! (of-opd ! (load ! (from ! (stop !)) (look ! 6 refl))) (from ! (stop !)) (init ! 16 refl wt) $
+        assigns ! (of-opd ! (local ! 6 refl)) (from ! (stop !)) (init ! 16 refl wt) $
         returns ! (look ! 16 refl) $ move ! (18 ∷ 19 ∷ []) $ leaves ! 2 (holds _ ∷ holds _ ∷ holds _ ∷ holds _ ∷ holds _ ∷ holds _ ∷ []) refl $
         split ! $ move ! (2 ∷ []) $ fsplit ! $ keep ! (2 ∷ 0 ∷ []) $ by ! (exits s u is (e ∙ get-past ys i (nltb→le i (length ys) over)))))))))))))))))
 

@@ -51,6 +51,7 @@ use Rattle.sessions.specs.Place.{first as first-of}
 use Rattle.sessions.proofs.PlaceLaws.{first-here, first-later, first-none}
 use Rattle.sessions.proofs.Walk.{R, mach, size, place-fits, is-true, is-false, word, ref, typed, looks-table, record-out, record-owned}
 use Rattle.sessions.proofs.Leaving.{leaves, holds, empty}
+use Rattle.sessions.proofs.Operands.{local}
 use Rattle.session.proofs.Session.Laws as T′
 use Rattle.session.proofs.wanted as wanted
 use Rattle.session.proofs.wanted.Symbol as wanted-def
@@ -150,10 +151,10 @@ module _ {M : Type 1} (𝓤 : URA M) (H : Heap 𝓤) (A : Atoms 𝓤) (W : Given
         by-test false over =
             let end : i .0 ≡ n = omega (arith, ltb-false (i .0) n over, i .1 .0) in
             assigns ! (of-opd ! (load ! (from ! (fld ! refl (stop !))) (look-in ! 18 (sub ! 1 refl (whole !))))) (from ! (stop !)) (init ! 8 refl (tt, record { fits = room .0 })) $
-            assigns ! (bin ! (load ! (from ! (stop !)) (look ! 12 refl)) (load ! (from ! (stop !)) (look ! 8 refl)) tt) (from ! (stop !)) (init ! 6 refl (tt, tt)) $
+            assigns ! (bin ! (local ! 12 refl) (local ! 8 refl) tt) (from ! (stop !)) (init ! 6 refl (tt, tt)) $
             rewrite ! 6 (λ (t : Bool). ‵ (fat fullShare tyBool l₇ 0 (vbool t))) over refl $
-            leaves-loop ! (load ! (from ! (stop !)) (look ! 6 refl)) $ exec ! C Λ En code.Mir.t-3 (atRet En Post) $
-            assigns ! (of-opd ! (load ! (from ! (stop !)) (look ! 12 refl))) (from ! (stop !)) (init ! 20 refl (tt, record { fits = fits })) $
+            leaves-loop ! (local ! 6 refl) $ exec ! C Λ En code.Mir.t-3 (atRet En Post) $
+            assigns ! (of-opd ! (local ! 12 refl)) (from ! (stop !)) (init ! 20 refl (tt, record { fits = fits })) $
             returns ! (look ! 20 refl) $ leaves ! 2 (holds _ ∷ holds _ ∷ holds _ ∷ holds _ ∷ holds _ ∷ empty ∷ holds _ ∷ holds _ ∷ []) refl $
             by ! (exits (i .0) (first-none (isWanted used id) ys (i .0) (i .1 .1) end) fits)
         by-test true less =
@@ -161,12 +162,12 @@ module _ {M : Type 1} (𝓤 : URA M) (H : Heap 𝓤) (A : Atoms 𝓤) (W : Given
             let pf : i .0 * size < 2 ^ 64 = place-fits (i .0) n l (room .1) in
             let nf : i .0 + 1 < 2 ^ 64 = omega (arith, room .0, l) in
             assigns ! (of-opd ! (load ! (from ! (fld ! refl (stop !))) (look-in ! 18 (sub ! 1 refl (whole !))))) (from ! (stop !)) (init ! 8 refl (tt, record { fits = room .0 })) $
-            assigns ! (bin ! (load ! (from ! (stop !)) (look ! 12 refl)) (load ! (from ! (stop !)) (look ! 8 refl)) tt) (from ! (stop !)) (init ! 6 refl (tt, tt)) $
+            assigns ! (bin ! (local ! 12 refl) (local ! 8 refl) tt) (from ! (stop !)) (init ! 6 refl (tt, tt)) $
             rewrite ! 6 (λ (t : Bool). ‵ (fat fullShare tyBool l₇ 0 (vbool t))) less refl $
-            stays ! (load ! (from ! (stop !)) (look ! 6 refl)) $
+            stays ! (local ! 6 refl) $
             -- the record is copied out
-            assigns ! (bin ! (load ! (from ! (stop !)) (look ! 12 refl)) (lit ! tt) (record { fits = pf })) (from ! (stop !)) (store ! 8 refl (tt, record { fits = pf })) $
-            assigns ! (bin ! (load ! (from ! (fld ! refl (stop !))) (look-in ! 18 (sub ! 0 refl (whole !)))) (load ! (from ! (stop !)) (look ! 8 refl)) tt) (from ! (stop !)) (init ! 4 refl (tt, tt)) $
+            assigns ! (bin ! (local ! 12 refl) (lit ! tt) (record { fits = pf })) (from ! (stop !)) (store ! 8 refl (tt, record { fits = pf })) $
+            assigns ! (bin ! (load ! (from ! (fld ! refl (stop !))) (look-in ! 18 (sub ! 0 refl (whole !)))) (local ! 8 refl) tt) (from ! (stop !)) (init ! 4 refl (tt, tt)) $
             rewrite ! 4 (λ (p : ℕ). ‵ (fat fullShare tyPtr l₈ 0 (vptr b p))) (sym (place-is size o (i .0))) refl $
             fsplit ! $ move ! (1 ∷ []) $ fsplit ! $ move ! (1 ∷ 3 ∷ []) $
             looks-table ! tt ys b o (λ q′.
@@ -178,20 +179,20 @@ module _ {M : Type 1} (𝓤 : URA M) (H : Heap 𝓤) (A : Atoms 𝓤) (W : Given
             move ! (2 ∷ 1 ∷ []) $ fjoin ! $ move ! (2 ∷ 0 ∷ []) $ fjoin ! $
             -- [what table owns; the token; _9; …]: `wanted` is asked
             use0 W (raw (Asks 𝓤 H A mem run .pre (to (i .0)))) (asked (i .0) g) $
-            calls-at ! (fmOf 𝓤 H (W .laws) 𝓣) (Asks 𝓤 H A mem run) known (to (i .0)) (and-then ! (load ! (from ! (stop !)) (look ! 3 refl)) (and-then ! (load ! (from ! (stop !)) (look ! 17 refl)) (and-then ! (load ! (from ! (stop !)) (look ! 15 refl)) (no-more !)))) (λ v.
+            calls-at ! (fmOf 𝓤 H (W .laws) 𝓣) (Asks 𝓤 H A mem run) known (to (i .0)) (and-then ! (local ! 3 refl) (and-then ! (local ! 17 refl) (and-then ! (local ! 15 refl) (no-more !)))) (λ v.
             use1 W (later (some (λ (r : Bool). (‵ ftrue ⊛ ‵ (Boolean .own r (v ∷ []))) ⊛ raw (ensured 𝓤 H A wanted.ended (wanted.clauses 𝓤 H A mem run) tt (elem (i .0), (used, (id, tt))) tt r)))) (id⊢ 𝓤 _) $ await ! tt $ pick ! (λ r.
             split ! $ move ! (1 ∷ []) $ use1 W (raw (fact 𝓤 (r ≡ isWanted used id (elem (i .0))))) (said 𝓤 H A mem run (elem (i .0)) used id r) $ heard ! (r ≡ isWanted used id (elem (i .0))) (λ e. split ! $ drop ! $
             facts ! Boolean (Is Boolean) (shows 𝓤 H A Boolean) r (v ∷ []) (λ is.
             land ! (from ! (stop !)) (init ! 10 refl (bool-lawful 𝓤 H A W .typed r _ is .0)) $
             rewrite ! 10 (λ (u : Val). ‵ (fat fullShare tyBool l₅ 0 u)) (ap only (bool-tells r _ is)) refl $
-            assigns ! (of-opd ! (load ! (from ! (stop !)) (look ! 10 refl))) (from ! (stop !)) (store ! 6 refl (tt, tt)) $
-            first ! $ branches ! (load ! (from ! (stop !)) (look ! 6 refl))
+            assigns ! (of-opd ! (local ! 10 refl)) (from ! (stop !)) (store ! 6 refl (tt, tt)) $
+            first ! $ branches ! (local ! 6 refl)
             (λ held.
-            assigns ! (of-opd ! (load ! (from ! (stop !)) (look ! 12 refl))) (from ! (stop !)) (init ! 20 refl (tt, record { fits = fits })) $
+            assigns ! (of-opd ! (local ! 12 refl)) (from ! (stop !)) (init ! 20 refl (tt, record { fits = fits })) $
             returns-within ! Post refl (look ! 20 refl) $ leaves ! 2 (holds _ ∷ holds _ ∷ holds _ ∷ holds _ ∷ holds _ ∷ holds _ ∷ holds _ ∷ holds _ ∷ holds _ ∷ holds _ ∷ []) refl $
             by ! (exits (i .0) (first-here (isWanted used id) ys (i .0) (i .1 .1) l (sym e ∙ is-true r held)) fits))
             (λ failed. skips ! $ exec ! C Λ En on (anyQ (Turned i)) $
-            assigns-last ! (bin ! (load ! (from ! (stop !)) (look ! 12 refl)) (lit ! tt) (record { fits = nf })) (from ! (stop !)) (store ! 12 refl (tt, record { fits = nf })) $
+            assigns-last ! (bin ! (local ! 12 refl) (lit ! tt) (record { fits = nf })) (from ! (stop !)) (store ! 12 refl (tt, record { fits = nf })) $
             forget ! 2 refl $ forget ! 4 refl $ forget ! 6 refl $ forget ! 8 refl $ forget ! 10 refl $
             again ! Nearer At i (i .0 + 1, (omega (arith, l), first-later (isWanted used id) ys (i .0) (i .1 .1) l (sym e ∙ is-false r failed))) (omega (arith, l)))))))))
 

@@ -1,6 +1,6 @@
 -- Right because the place that the search finds is the record that lookup takes. A walk of the MIR, by hand: the table is copied to both callees.
 -- Assumes nothing.
-use Rattle.sessions.proofs.Kit.{ !, Atoms, Calls, FmC, Fun, GName, Given, Heap, Is, Lft, List, Loops, Meets, Memory, RefT, Room, Routine, SProp, Share, ShrSlice, Stays, Tables, Triple, URA, Val, Vals, WpFn, WpFn-mono, [], _$_, _<_, _^_, _∵_, _∷_, _≡_, _⊛_, alloc0, alloc1, and-then, by, cited, done, drop, emp, ends-at, ent, enter, entered, fjoin, flft, fmOf, frame, from, fsplit, fst∗, ftrue, givenOf, goes-none, goes-none-slice, init, join, land, length, load, look, move, named, no-more, nothing, now, onEntry, owned, owns, params1, pass0, pass1, plain, qed, refl, returns, says, shr-slice-tells, slice-vals, sliceVal, split, stay-none, stay-none-slice, stop, suffices, tables, tablesOf, tripleOf, true, true-lit, u64, uint-makes, uint-tells, uint-vals, via, vint, w64, walk-meets, walkOf, walked, yes, ‵, ℕ, ⋆}
+use Rattle.sessions.proofs.Kit.{ !, Atoms, Calls, FmC, Fun, GName, Given, Heap, Is, Lft, List, Loops, Meets, Memory, RefT, Room, Routine, SProp, Share, ShrSlice, Stays, Tables, Triple, URA, Val, Vals, WpFn, WpFn-mono, [], _$_, _<_, _^_, _∵_, _∷_, _≡_, _⊛_, alloc0, alloc1, and-then, by, cited, done, drop, emp, ends-at, ent, enter, entered, fjoin, flft, fmOf, frame, from, fsplit, fst∗, ftrue, givenOf, goes-none, goes-none-slice, init, join, land, length, look, move, named, no-more, nothing, now, onEntry, owned, owns, params1, pass0, pass1, plain, qed, refl, returns, says, shr-slice-tells, slice-vals, sliceVal, split, stay-none, stay-none-slice, stop, suffices, tables, tablesOf, tripleOf, true, true-lit, u64, uint-makes, uint-tells, uint-vals, via, vint, w64, walk-meets, walkOf, walked, yes, ‵, ℕ, ⋆}
 use Rattle.session.specs.declared.Session.{Session}
 use Rattle.session.specs.Records.{sessionOf}
 use Rattle.protocol.specs.SessionTable.{recordOf}
@@ -9,6 +9,7 @@ use Rattle.sessions.proofs.TableCalls.{taken}
 use Rattle.sessions.proofs.Walk.{R, mach, typed, record-owned}
 use Rattle.sessions.proofs.Calls.{ref-at, Shr, Finds, Gets, calls-find, calls-get}
 use Rattle.sessions.proofs.Leaving.{leaves, holds}
+use Rattle.sessions.proofs.Operands.{local}
 use Rattle.sessions.proofs.find.Symbol as find-def
 use Rattle.sessions.proofs.find.Symbol.{name as #sessions·find}
 use Rattle.sessions.proofs.find.Met as find-thm
@@ -52,9 +53,9 @@ module _ {M : Type 1} (𝓤 : URA M) (H : Heap 𝓤) (A : Atoms 𝓤) (W : Given
         pass1 ! (init ! 4 refl (tt, (tt, (record { fits = room .0 }, tt)))) $ pass1 ! (init ! 2 refl (tt, record { fits = id-fits })) $ pass0 ! $
         -- [_3; …; _0; …; the token; what the parameters own]  to  [the token; the table; _3; …]
         move ! (9 ∷ []) $ fsplit ! $ move ! (1 ∷ []) $ drop ! $ move ! (9 ∷ []) $ split ! $ move ! (1 ∷ []) $ drop ! $
-        calls-find mem run κ q b o γ ys ! fm kf true id id-fits (and-then ! (load ! (from ! (stop !)) (look ! 6 refl)) (and-then ! (true-lit !) (and-then ! (load ! (from ! (stop !)) (look ! 4 refl)) (no-more !)))) (λ i e gi.
+        calls-find mem run κ q b o γ ys ! fm kf true id id-fits (and-then ! (local ! 6 refl) (and-then ! (true-lit !) (and-then ! (local ! 4 refl) (no-more !)))) (λ i e gi.
         land ! (from ! (stop !)) (init ! 2 refl (tt, record { fits = gi })) $
-        calls-get mem run κ q b o γ ys ! fm kg i gi (and-then ! (load ! (from ! (stop !)) (look ! 6 refl)) (and-then ! (load ! (from ! (stop !)) (look ! 2 refl)) (no-more !))) (λ s e′ gs.
+        calls-get mem run κ q b o γ ys ! fm kg i gi (and-then ! (local ! 6 refl) (and-then ! (local ! 2 refl) (no-more !))) (λ s e′ gs.
         land ! (from ! (stop !)) (init ! 8 refl (typed 𝓤 H A W s (mach s) gs)) $
         returns ! (look ! 8 refl) $ leaves ! 2 (holds _ ∷ holds _ ∷ holds _ ∷ holds _ ∷ []) refl $
         by ! (exits s gs (taken ys id i s e e′))))))))

@@ -1,6 +1,6 @@
 -- Right because the record that lookup takes for the id that the message names opens it, and the table is a `&`. A walk of the MIR, by hand: the message is lent as `&` for `session_id`, comes back, and goes to `open_record` for good.
 -- Assumes nothing.
-use Rattle.sessions.proofs.Kit.{_≡_, refl, ℕ, List, [], _∷_, length, URA, fullShare, named, w64, Val, vint, SProp, ent, sep, emp, via, id⊢, fst∗, Lft, GName, Share, ftrue, flft, Memory, Routine, Heap, Calls, Loops, WpFn, Tables, Atoms, sem, Fun, givenOf, tables, tablesOf, Given, ‵, raw, _⊛_, ⋆, _$_, _∵_, !, qed, by, move, keep, drop, use1, use2, split, join, fsplit, fjoin, feqL, suffices, frame, done, whole, sub, look-in, agg, look, init, stop, hop, fld, from, load, addr, assigns, land, no-more, and-then, returns, enter, alloc1, alloc0, params1, pass1, pass0, FmC, fmOf, WpFn-mono, owns, Is, uint-tells, u8, RefT, now, sliceVal, MutSlice, ShrSlice, Room, finally, slice-vals, mut-slice-tells, shr-slice-tells, shr-slice-copy, plain, owned, nothing, Vals, onEntry, Meets, tripleOf, Contract, Triple, entered, cited, says, Stays, stay-none, stay-none-slice, gave-slice, walkOf, goes-none, goes-none-slice, goes-gave-slice, ends-at, walked, walk-meets, yes}
+use Rattle.sessions.proofs.Kit.{_≡_, refl, ℕ, List, [], _∷_, length, URA, fullShare, named, w64, Val, vint, SProp, ent, sep, emp, via, id⊢, fst∗, Lft, GName, Share, ftrue, flft, Memory, Routine, Heap, Calls, Loops, WpFn, Tables, Atoms, sem, Fun, givenOf, tables, tablesOf, Given, ‵, raw, _⊛_, ⋆, _$_, _∵_, !, qed, by, move, keep, drop, use1, use2, split, join, fsplit, fjoin, feqL, suffices, frame, done, whole, sub, look-in, look, init, stop, from, land, no-more, and-then, returns, enter, alloc1, alloc0, params1, pass1, pass0, FmC, fmOf, WpFn-mono, owns, Is, uint-tells, u8, RefT, now, sliceVal, MutSlice, ShrSlice, Room, finally, slice-vals, mut-slice-tells, shr-slice-tells, shr-slice-copy, plain, owned, nothing, Vals, onEntry, Meets, tripleOf, Contract, Triple, entered, cited, says, Stays, stay-none, stay-none-slice, gave-slice, walkOf, goes-none, goes-none-slice, goes-gave-slice, ends-at, walked, walk-meets, yes}
 use denote.Struct.Laws as LL
 use denote.Enum.Laws as EL
 use Rattle.session.specs.declared.Session.{Session}
@@ -18,6 +18,7 @@ use Rattle.compound.proofs.Outcome as An
 use Rattle.compound.proofs.Outcome.Laws as An′
 use Rattle.sessions.proofs.Walk.{R, mach, typed, record-owned}
 use Rattle.sessions.proofs.Leaving.{leaves, holds}
+use Rattle.sessions.proofs.Operands.{local, reborrows}
 use Rattle.sessions.proofs.Said.{calls-said}
 use Rattle.sessions.proofs.Calls.{ref-at, lend, back, Looks, Shr, calls-lookup}
 use Rattle.sessions.proofs.lookup.Symbol as lookup-def
@@ -105,21 +106,19 @@ module _ {M : Type 1} (𝓤 : URA M) (H : Heap 𝓤) (A : Atoms 𝓤) (W : Given
         move ! (22 ∷ []) $ split ! $ move ! (1 ∷ []) $ split ! $ move ! (1 ∷ []) $ drop ! $ move ! (2 ∷ 0 ∷ []) $
         -- the message is lent as `&`: [ν's token; the `&`; what is lent out; the table's token; the table; _9; …]
         lend u8 (named 1) μ p γ′ b′ o′ ms ! tt (λ ν δ.
-        assigns ! (addr ! (from ! (fld ! refl (hop ! (look-in ! 17 (sub ! 0 refl (whole !))) (stop !))))) (from ! (stop !)) (init ! 11 refl (tt, tt)) $
-        assigns ! (agg ! (and-then ! (load ! (from ! (stop !)) (look ! 11 refl)) (and-then ! (load ! (from ! (fld ! refl (stop !))) (look-in ! 17 (sub ! 1 refl (whole !)))) (no-more !)))) (from ! (stop !)) (init ! 9 refl (tt, (tt, (record { fits = room′ .0 }, tt)))) $
+        reborrows ! refl refl (look-in ! 17 (sub ! 0 refl (whole !))) (init ! 11 refl (tt, tt)) (look ! 11 refl) (look-in ! 17 (sub ! 1 refl (whole !))) (init ! 9 refl (tt, (tt, (record { fits = room′ .0 }, tt)))) $
         move ! (1 ∷ []) $ use1 W (‵ (ShrSlice (named 0) (ν ∷ []) u8 .own (ref-at b′ o′ δ ms) (ml ∷ [])) ⊛ ‵ (ShrSlice (named 0) (ν ∷ []) u8 .own (ref-at b′ o′ δ ms) (ml ∷ []))) (shr-slice-copy 𝓤 H A W (named 0) (ν ∷ []) u8 .twice (ref-at b′ o′ δ ms) _) $ split ! $ move ! (2 ∷ 0 ∷ []) $ use2 W (raw (Ids 𝓤 H A mem run .pre (to-id 𝓤 H A mem run (ν ∷ []) fullShare b′ o′ δ ms))) (asks-id 𝓤 H A mem run (ν ∷ []) fullShare b′ o′ δ ms W) $
-        calls-said session-id.ended (session-id.clauses 𝓤 H A mem run) ! fm ki (to-id 𝓤 H A mem run (ν ∷ []) fullShare b′ o′ δ ms) (λ r ws. r ≡ namedId ms) (λ r ws. id⊢ 𝓤 _) (vint w64) (uint-tells w64) (and-then ! (load ! (from ! (stop !)) (look ! 9 refl)) (no-more !)) (λ id ws e₀ gi₀.
+        calls-said session-id.ended (session-id.clauses 𝓤 H A mem run) ! fm ki (to-id 𝓤 H A mem run (ν ∷ []) fullShare b′ o′ δ ms) (λ r ws. r ≡ namedId ms) (λ r ws. id⊢ 𝓤 _) (vint w64) (uint-tells w64) (and-then ! (local ! 9 refl) (no-more !)) (λ id ws e₀ gi₀.
         let gid = gi₀ .1 in
         use1 W (‵ (flft (ν ∷ []) fullShare) ⊛ ‵ ftrue) (id⊢ 𝓤 _) $ split ! $ move ! (1 ∷ 2 ∷ []) $ drop ! $ drop ! $
         land ! (from ! (stop !)) (init ! 15 refl (tt, record { fits = gid })) $
         back u8 (named 1) μ p γ′ b′ o′ ms ! tt ν δ room′ $ move ! (2 ∷ 3 ∷ []) $
         -- [the table's token; the table; the message; its token; _9; …]
-        calls-lookup mem run κ q b o γ ys ! fm kl id gid (and-then ! (load ! (from ! (stop !)) (look ! 20 refl)) (and-then ! (load ! (from ! (stop !)) (look ! 14 refl)) (no-more !))) (λ s e gs.
+        calls-lookup mem run κ q b o γ ys ! fm kl id gid (and-then ! (local ! 20 refl) (and-then ! (local ! 14 refl) (no-more !))) (λ s e gs.
         land ! (from ! (stop !)) (init ! 12 refl (typed 𝓤 H A W s (mach s) gs)) $
-        assigns ! (addr ! (from ! (fld ! refl (hop ! (look-in ! 16 (sub ! 0 refl (whole !))) (stop !))))) (from ! (stop !)) (init ! 6 refl (tt, tt)) $
-        assigns ! (agg ! (and-then ! (load ! (from ! (stop !)) (look ! 6 refl)) (and-then ! (load ! (from ! (fld ! refl (stop !))) (look-in ! 16 (sub ! 1 refl (whole !)))) (no-more !)))) (from ! (stop !)) (init ! 4 refl (tt, (tt, (record { fits = room′ .0 }, tt)))) $
+        reborrows ! refl refl (look-in ! 16 (sub ! 0 refl (whole !))) (init ! 6 refl (tt, tt)) (look ! 6 refl) (look-in ! 16 (sub ! 1 refl (whole !))) (init ! 4 refl (tt, (tt, (record { fits = room′ .0 }, tt)))) $
         move ! (3 ∷ 2 ∷ []) $ use2 W (raw (Opens 𝓤 H A mem run .pre (to-open 𝓤 H A mem run μ p b′ o′ γ′ ms s c))) (asks-open 𝓤 H A mem run μ p b′ o′ γ′ ms W s c gs gc) $
-        calls-said open-record.ended (open-record.clauses 𝓤 H A mem run) ! fm ko (to-open 𝓤 H A mem run μ p b′ o′ γ′ ms s c) (λ r ws. OpensWith (sessionOf s) (connectionOf c) ms (ws .1 .1 .0) (answerOf r)) (λ r ws. id⊢ 𝓤 _) mach-a (EL.tells An.the-type An′.the-laws) (and-then ! (load ! (from ! (stop !)) (look ! 11 refl)) (and-then ! (load ! (from ! (stop !)) (look ! 17 refl)) (and-then ! (load ! (from ! (stop !)) (look ! 3 refl)) (no-more !)))) (λ r ws said gr.
+        calls-said open-record.ended (open-record.clauses 𝓤 H A mem run) ! fm ko (to-open 𝓤 H A mem run μ p b′ o′ γ′ ms s c) (λ r ws. OpensWith (sessionOf s) (connectionOf c) ms (ws .1 .1 .0) (answerOf r)) (λ r ws. id⊢ 𝓤 _) mach-a (EL.tells An.the-type An′.the-laws) (and-then ! (local ! 11 refl) (and-then ! (local ! 17 refl) (and-then ! (local ! 3 refl) (no-more !)))) (λ r ws said gr.
         use1 W (‵ (flft μ p) ⊛ ‵ ftrue) (id⊢ 𝓤 _) $ split ! $ move ! (1 ∷ []) $ drop ! $ move ! (1 ∷ []) $ fsplit ! $ drop ! $ fsplit ! $ drop ! $ fsplit ! $ fsplit ! $ move ! (1 ∷ []) $ feqL ! (λ lf. move ! (1 ∷ []) $ drop ! $ move ! (1 ∷ 0 ∷ []) $
         land ! (from ! (stop !)) (init ! 22 refl (EL.lawful An.the-type An′.the-laws 𝓤 H A W tt .typed r _ gr .0)) $
         returns ! (look ! 22 refl) $ leaves ! 4 (holds _ ∷ holds _ ∷ holds _ ∷ holds _ ∷ holds _ ∷ holds _ ∷ holds _ ∷ holds _ ∷ holds _ ∷ holds _ ∷ []) refl $

@@ -9,6 +9,7 @@ use Rattle.session.proofs.Session as T
 use Rattle.session.proofs.Session.Laws as T′
 use Rattle.sessions.proofs.Walk.{R, mach as mach-of, size, place-fits, set-past, word, ref, typed, record-out, record-owned}
 use Rattle.sessions.proofs.Leaving.{Locals, leaves, holds}
+use Rattle.sessions.proofs.Operands.{local}
 use Rattle.sessions.proofs.put_at.Key.{name as #sessions·put-at}
 use Rattle.sessions.proofs.put_at as put-at
 use Rattle.sessions.proofs.put_at.Statement as stated
@@ -59,19 +60,19 @@ module _ {M : Type 1} (𝓤 : URA M) (H : Heap 𝓤) (A : Atoms 𝓤) (W : Given
         pass1 ! (init ! 12 refl (tt, (tt, (record { fits = room .0 }, tt)))) $ pass1 ! (init ! 10 refl (tt, record { fits = gi })) $ pass1 ! (init ! 8 refl wt) $ pass0 ! $
         -- [_7; …; _0; …; the token; what table, i and s own]
         assigns ! (of-opd ! (load ! (from ! (fld ! refl (stop !))) (look-in ! 12 (sub ! 1 refl (whole !))))) (from ! (stop !)) (init ! 6 refl (tt, record { fits = room .0 })) $
-        assigns ! (bin ! (load ! (from ! (stop !)) (look ! 10 refl)) (load ! (from ! (stop !)) (look ! 6 refl)) tt) (from ! (stop !)) (init ! 4 refl (tt, tt)) $
+        assigns ! (bin ! (local ! 10 refl) (local ! 6 refl) tt) (from ! (stop !)) (init ! 4 refl (tt, tt)) $
         move ! (17 ∷ []) $ fsplit ! $ fsplit ! $ move ! (1 ∷ []) $ fsplit ! $ move ! (20 ∷ []) $ split ! $ move ! (2 ∷ 3 ∷ 0 ∷ []) $
         opens-slice ! tt R ys b o $
         -- [the row; the open borrow; obs; auth; true; table's fact; i's and s's; _7; …]
-        first ! $ branches ! (load ! (from ! (stop !)) (look ! 11 refl))
+        first ! $ branches ! (local ! 11 refl)
         (λ less.
         let l : i < length ys = ltb→lt i (length ys) less in
         let pf : i * size < 2 ^ 64 = place-fits i (length ys) l (room .1) in
-        assigns ! (bin ! (load ! (from ! (stop !)) (look ! 17 refl)) (lit ! tt) (record { fits = pf })) (from ! (stop !)) (init ! 9 refl (tt, record { fits = pf })) $
-        assigns ! (bin ! (load ! (from ! (fld ! refl (stop !))) (look-in ! 19 (sub ! 0 refl (whole !)))) (load ! (from ! (stop !)) (look ! 9 refl)) tt) (from ! (stop !)) (init ! 7 refl (tt, tt)) $
+        assigns ! (bin ! (local ! 17 refl) (lit ! tt) (record { fits = pf })) (from ! (stop !)) (init ! 9 refl (tt, record { fits = pf })) $
+        assigns ! (bin ! (load ! (from ! (fld ! refl (stop !))) (look-in ! 19 (sub ! 0 refl (whole !)))) (local ! 9 refl) tt) (from ! (stop !)) (init ! 7 refl (tt, tt)) $
         rewrite ! 7 (λ (p : ℕ). ‵ (fat fullShare tyPtr l₇ 0 (vptr b p))) (sym (place-is size o i)) refl $
         record-out ! fullShare ys i b o l (λ _.
-        assigns-last ! (of-opd ! (load ! (from ! (stop !)) (look ! 17 refl))) (from ! (hop ! (look ! 9 refl) (stop !))) (store-raw ! 0 refl wt) $
+        assigns-last ! (of-opd ! (local ! 17 refl)) (from ! (hop ! (look ! 9 refl) (stop !))) (store-raw ! 0 refl wt) $
         exec ! C Λ (locals l₀ l₁ l₂ l₃ l₄ l₅ l₆ l₇) code.Mir.t-4 (atRet (locals l₀ l₁ l₂ l₃ l₄ l₅ l₆ l₇) Post) $
         move ! (1 ∷ []) $ drop ! $ record-owned ! s _ gs $ move ! (1 ∷ 0 ∷ []) $ elem-put ! R fullShare ys i s (mach ∷ []) b o l $
         closes-slice ! tt R ys (set ys i s) (length-set ys i s) b o $

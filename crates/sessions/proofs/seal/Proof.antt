@@ -1,6 +1,6 @@
 -- Right because the record that lookup takes seals the message, and the step then moves its counter by one or by nothing. A walk of the MIR, by hand: the table is lent as `&` for `lookup`, and comes back; the message goes to `seal_record` for good, and the table to `step`.
 -- Assumes nothing.
-use Rattle.sessions.proofs.Kit.{_≡_, refl, ℕ, _<_, _^_, List, [], _∷_, length, URA, fullShare, named, w64, Val, vint, SProp, ent, sep, emp, via, id⊢, fst∗, Lft, GName, Share, ftrue, flft, Memory, Routine, Heap, Calls, Loops, WpFn, Tables, Atoms, sem, Fun, givenOf, tables, tablesOf, Given, ‵, raw, _⊛_, ⋆, _$_, _∵_, !, qed, by, move, keep, drop, use0, use1, use2, split, join, fsplit, fjoin, feqL, suffices, frame, done, whole, sub, look-in, agg, look, init, stop, hop, fld, from, load, of-opd, addr, assigns, land, no-more, and-then, returns, enter, alloc1, alloc0, params1, pass1, pass0, FmC, fmOf, WpFn-mono, owns, Is, uint-makes, uint-vals, uint-tells, u64, u8, RefT, now, sliceVal, MutSlice, Room, finally, slice-vals, mut-slice-tells, plain, owned, nothing, Vals, onEntry, Meets, tripleOf, Contract, Triple, entered, cited, says, Stays, stay-none, gave-slice, walkOf, goes-none, goes-gave-slice, ends-at, walked, walk-meets, yes}
+use Rattle.sessions.proofs.Kit.{_≡_, refl, ℕ, _<_, _^_, List, [], _∷_, length, URA, fullShare, named, w64, Val, vint, SProp, ent, sep, emp, via, id⊢, fst∗, Lft, GName, Share, ftrue, flft, Memory, Routine, Heap, Calls, Loops, WpFn, Tables, Atoms, sem, Fun, givenOf, tables, tablesOf, Given, ‵, raw, _⊛_, ⋆, _$_, _∵_, !, qed, by, move, keep, drop, use0, use1, use2, split, join, fsplit, fjoin, feqL, suffices, frame, done, whole, sub, look-in, look, init, stop, from, of-opd, assigns, land, no-more, and-then, returns, enter, alloc1, alloc0, params1, pass1, pass0, FmC, fmOf, WpFn-mono, owns, Is, uint-makes, uint-vals, uint-tells, u64, u8, RefT, now, sliceVal, MutSlice, Room, finally, slice-vals, mut-slice-tells, plain, owned, nothing, Vals, onEntry, Meets, tripleOf, Contract, Triple, entered, cited, says, Stays, stay-none, gave-slice, walkOf, goes-none, goes-gave-slice, ends-at, walked, walk-meets, yes}
 use denote.Struct.Laws as LL
 use denote.Enum.Laws as EL
 use Rattle.session.specs.declared.Session.{Session}
@@ -20,6 +20,7 @@ use Rattle.compound.proofs.Outcome as An
 use Rattle.compound.proofs.Outcome.Laws as An′
 use Rattle.sessions.proofs.Walk.{R, mach, typed, record-owned}
 use Rattle.sessions.proofs.Leaving.{leaves, holds}
+use Rattle.sessions.proofs.Operands.{local, reborrows}
 use Rattle.sessions.proofs.Said.{calls-said}
 use Rattle.sessions.proofs.Calls.{ref-at, lend, back, Looks, Moves, calls-lookup, calls-step}
 use Rattle.sessions.proofs.lookup.Symbol as lookup-def
@@ -113,28 +114,25 @@ module _ {M : Type 1} (𝓤 : URA M) (H : Heap 𝓤) (A : Atoms 𝓤) (W : Given
         move ! (32 ∷ []) $ split ! $ move ! (1 ∷ []) $ split ! $ move ! (1 ∷ []) $ drop ! $ move ! (3 ∷ 1 ∷ []) $
         -- the table is lent as `&`: [ν's token; the `&`; what is lent out; the message's token; the message; _14; …]
         lend R (named 0) κ q γ b o ys ! tt (λ ν δ.
-        assigns ! (addr ! (from ! (fld ! refl (hop ! (look-in ! 31 (sub ! 0 refl (whole !))) (stop !))))) (from ! (stop !)) (init ! 17 refl (tt, tt)) $
-        assigns ! (agg ! (and-then ! (load ! (from ! (stop !)) (look ! 17 refl)) (and-then ! (load ! (from ! (fld ! refl (stop !))) (look-in ! 31 (sub ! 1 refl (whole !)))) (no-more !)))) (from ! (stop !)) (init ! 15 refl (tt, (tt, (record { fits = room .0 }, tt)))) $
-        calls-lookup mem run (ν ∷ []) fullShare b o δ ys ! fm kl id id-fits (and-then ! (load ! (from ! (stop !)) (look ! 15 refl)) (and-then ! (load ! (from ! (stop !)) (look ! 27 refl)) (no-more !))) (λ s e gs.
+        reborrows ! refl refl (look-in ! 31 (sub ! 0 refl (whole !))) (init ! 17 refl (tt, tt)) (look ! 17 refl) (look-in ! 31 (sub ! 1 refl (whole !))) (init ! 15 refl (tt, (tt, (record { fits = room .0 }, tt)))) $
+        calls-lookup mem run (ν ∷ []) fullShare b o δ ys ! fm kl id id-fits (and-then ! (local ! 15 refl) (and-then ! (local ! 27 refl) (no-more !))) (λ s e gs.
         land ! (from ! (stop !)) (init ! 23 refl (typed 𝓤 H A W s (mach s) gs)) $
         -- it is back: [the table; its token; the message's token; the message; _14; …], and the message goes to `seal_record`
         back R (named 0) κ q γ b o ys ! tt ν δ room $
-        assigns ! (addr ! (from ! (fld ! refl (hop ! (look-in ! 24 (sub ! 0 refl (whole !))) (stop !))))) (from ! (stop !)) (init ! 12 refl (tt, tt)) $
-        assigns ! (agg ! (and-then ! (load ! (from ! (stop !)) (look ! 12 refl)) (and-then ! (load ! (from ! (fld ! refl (stop !))) (look-in ! 24 (sub ! 1 refl (whole !)))) (no-more !)))) (from ! (stop !)) (init ! 10 refl (tt, (tt, (record { fits = room′ .0 }, tt)))) $
+        reborrows ! refl refl (look-in ! 24 (sub ! 0 refl (whole !))) (init ! 12 refl (tt, tt)) (look ! 12 refl) (look-in ! 24 (sub ! 1 refl (whole !))) (init ! 10 refl (tt, (tt, (record { fits = room′ .0 }, tt)))) $
         move ! (2 ∷ 3 ∷ []) $ use2 W (raw (Seals 𝓤 H A mem run .pre (to-seal 𝓤 H A mem run μ p b′ o′ γ′ ms s c id))) (asks-seal 𝓤 H A mem run μ p b′ o′ γ′ ms s c id W gs gc id-fits) $
-        calls-said seal-record.ended (seal-record.clauses 𝓤 H A mem run) ! fm ks (to-seal 𝓤 H A mem run μ p b′ o′ γ′ ms s c id) (λ r ws. SealsWith (sessionOf s) (connectionOf c) id ms (ws .1 .1 .1 .0) (answerOf r)) (λ r ws. id⊢ 𝓤 _) mach-a (EL.tells An.the-type An′.the-laws) (and-then ! (load ! (from ! (stop !)) (look ! 21 refl)) (and-then ! (load ! (from ! (stop !)) (look ! 27 refl)) (and-then ! (load ! (from ! (stop !)) (look ! 25 refl)) (and-then ! (load ! (from ! (stop !)) (look ! 9 refl)) (no-more !))))) (λ r ws said gr.
+        calls-said seal-record.ended (seal-record.clauses 𝓤 H A mem run) ! fm ks (to-seal 𝓤 H A mem run μ p b′ o′ γ′ ms s c id) (λ r ws. SealsWith (sessionOf s) (connectionOf c) id ms (ws .1 .1 .1 .0) (answerOf r)) (λ r ws. id⊢ 𝓤 _) mach-a (EL.tells An.the-type An′.the-laws) (and-then ! (local ! 21 refl) (and-then ! (local ! 27 refl) (and-then ! (local ! 25 refl) (and-then ! (local ! 9 refl) (no-more !))))) (λ r ws said gr.
         use1 W (‵ (flft μ p) ⊛ ‵ ftrue) (id⊢ 𝓤 _) $ split ! $ move ! (1 ∷ []) $ drop ! $ move ! (1 ∷ []) $ fsplit ! $ drop ! $ fsplit ! $ drop ! $ fsplit ! $ drop ! $ fsplit ! $ fsplit ! $ move ! (1 ∷ []) $ feqL ! (λ lf. move ! (1 ∷ []) $ drop ! $ move ! (1 ∷ 0 ∷ []) $
         land ! (from ! (stop !)) (init ! 20 refl (EL.lawful An.the-type An′.the-laws 𝓤 H A W tt .typed r _ gr .0)) $
         -- [the message's token; its last bytes; the table; its token; _14; …]
         use0 W (raw (HowFar 𝓤 H A mem run .pre (to-how-far 𝓤 H A mem run r))) (asks-how-far 𝓤 H A mem run W r gr) $
-        calls-said counter-moves.ended (counter-moves.clauses 𝓤 H A mem run) ! fm kh (to-how-far 𝓤 H A mem run r) (λ k ws. k ≡ counterMoves (answerOf r)) (λ k ws. id⊢ 𝓤 _) (vint w64) (uint-tells w64) (and-then ! (load ! (from ! (stop !)) (look ! 21 refl)) (no-more !)) (λ far ws′ eb gb. drop ! $ drop ! $
+        calls-said counter-moves.ended (counter-moves.clauses 𝓤 H A mem run) ! fm kh (to-how-far 𝓤 H A mem run r) (λ k ws. k ≡ counterMoves (answerOf r)) (λ k ws. id⊢ 𝓤 _) (vint w64) (uint-tells w64) (and-then ! (local ! 21 refl) (no-more !)) (λ far ws′ eb gb. drop ! $ drop ! $
         land ! (from ! (stop !)) (init ! 18 refl (tt, record { fits = gb .1 })) $
         -- the table goes to `step`
-        assigns ! (addr ! (from ! (fld ! refl (hop ! (look-in ! 30 (sub ! 0 refl (whole !))) (stop !))))) (from ! (stop !)) (init ! 6 refl (tt, tt)) $
-        assigns ! (agg ! (and-then ! (load ! (from ! (stop !)) (look ! 6 refl)) (and-then ! (load ! (from ! (fld ! refl (stop !))) (look-in ! 30 (sub ! 1 refl (whole !)))) (no-more !)))) (from ! (stop !)) (init ! 4 refl (tt, (tt, (record { fits = room .0 }, tt)))) $
-        move ! (3 ∷ 2 ∷ []) $ calls-step mem run κ q b o γ ys ! fm kp id far id-fits (gb .1) (and-then ! (load ! (from ! (stop !)) (look ! 3 refl)) (and-then ! (load ! (from ! (stop !)) (look ! 25 refl)) (and-then ! (load ! (from ! (stop !)) (look ! 17 refl)) (no-more !)))) (λ zs ez lz.
+        reborrows ! refl refl (look-in ! 30 (sub ! 0 refl (whole !))) (init ! 6 refl (tt, tt)) (look ! 6 refl) (look-in ! 30 (sub ! 1 refl (whole !))) (init ! 4 refl (tt, (tt, (record { fits = room .0 }, tt)))) $
+        move ! (3 ∷ 2 ∷ []) $ calls-step mem run κ q b o γ ys ! fm kp id far id-fits (gb .1) (and-then ! (local ! 3 refl) (and-then ! (local ! 25 refl) (and-then ! (local ! 17 refl) (no-more !)))) (λ zs ez lz.
         land ! (from ! (stop !)) (init ! 8 refl (tt, tt)) $
-        assigns ! (of-opd ! (load ! (from ! (stop !)) (look ! 20 refl))) (from ! (stop !)) (init ! 32 refl (EL.lawful An.the-type An′.the-laws 𝓤 H A W tt .typed r _ gr .0)) $
+        assigns ! (of-opd ! (local ! 20 refl)) (from ! (stop !)) (init ! 32 refl (EL.lawful An.the-type An′.the-laws 𝓤 H A W tt .typed r _ gr .0)) $
         returns ! (look ! 32 refl) $ leaves ! 4 (holds _ ∷ holds _ ∷ holds _ ∷ holds _ ∷ holds _ ∷ holds _ ∷ holds _ ∷ holds _ ∷ holds _ ∷ holds _ ∷ holds _ ∷ holds _ ∷ holds _ ∷ holds _ ∷ holds _ ∷ []) refl $
         keep ! (0 ∷ 2 ∷ 1 ∷ 3 ∷ []) $ by ! (exits r zs (ws .1 .1 .1 .0) gr lz lf (sealed-says (connectionOf c) id ms (tableOf ys) (ws .1 .1 .1 .0) (sessionOf s) far (answerOf r) (tableOf zs) (LL.owed T.the-type T′.the-laws s _ gs .1 .1 .1 .1 .1 .1 .1 .1 .0 .1) e said eb ez)))))))))))))))))))))))
 
