@@ -7,5 +7,6 @@ pub mod Operands
 pub mod PlaceLaws
 pub mod StepLaws
 pub mod TableLink
+pub mod Values
 pub mod Walk
 pub mod TableCalls

@@ -15,6 +15,7 @@ use Rattle.session.proofs.Changed.Laws as Ch′
 use Rattle.session.proofs.Adding as Ad
 use Rattle.session.proofs.Adding.Laws as Ad′
 use Rattle.sessions.proofs.Walk.{R, mach, typed, record-owned}
+use Rattle.sessions.proofs.Values.{mach-t, changed-typed}
 use Rattle.sessions.proofs.Leaving.{leaves, holds}
 use Rattle.sessions.proofs.Operands.{local, reborrows}
 use Rattle.sessions.proofs.Said.{calls-said}
@@ -39,9 +40,6 @@ use Rattle.sessions.proofs.add.Code as code
 
 abbrev stayed : Stays (add.ended .signature .params) (add.ended .kept)
 stayed = (gave-slice (0 ∷ []) tt (plain (λ _. R)), (stay-none (λ _. Ad.the-row) yes, (stay-none-slice (1 ∷ []) tt (plain (λ _. u8)) yes, (stay-none-slice (2 ∷ []) tt (plain (λ _. u8)) yes, tt))))
-
-abbrev mach-t : Changed → Val
-mach-t t = LL.val Ch.the-type Ch′.the-laws t
 
 abbrev mach-x : Adding → Val
 mach-x x = LL.val Ad.the-type Ad′.the-laws x
@@ -123,7 +121,7 @@ module _ {M : Type 1} (𝓤 : URA M) (H : Heap 𝓤) (A : Atoms 𝓤) (W : Given
         move ! (7 ∷ 6 ∷ []) $ join ! $ move ! (3 ∷ 1 ∷ 0 ∷ 4 ∷ 2 ∷ []) $ join ! $ use2 W (raw (Adds 𝓤 H A mem run .pre (to-add 𝓤 H A mem run μ₁ μ₂ p₁ p₂ b₁ o₁ b₂ o₂ γ₁ γ₂ ms cs x there old (ltb f (length ys))))) (asks-add 𝓤 H A mem run μ₁ μ₂ p₁ p₂ b₁ o₁ b₂ o₂ γ₁ γ₂ ms cs x there old (ltb f (length ys)) W gx gt go) $
         calls-said add-record.ended (add-record.clauses 𝓤 H A mem run) ! fm ka (to-add 𝓤 H A mem run μ₁ μ₂ p₁ p₂ b₁ o₁ b₂ o₂ γ₁ γ₂ ms cs x there old (ltb f (length ys))) (λ t ws. AddsWith (addingOf x cs ms) (there .used) (ltb f (length ys)) (sessionOf old) (t .number) (sessionOf (t .session))) (λ t ws. id⊢ 𝓤 _) mach-t (LL.tells Ch.the-type Ch′.the-laws) (and-then ! (local ! 45 refl) (and-then ! (local ! 37 refl) (and-then ! (local ! 33 refl) (and-then ! (local ! 31 refl) (and-then ! (local ! 43 refl) (and-then ! (local ! 41 refl) (no-more !))))))) (λ t ws et gc.
         use1 W (‵ (flft μ₁ p₁) ⊛ (‵ (flft μ₂ p₂) ⊛ ‵ ftrue)) (id⊢ 𝓤 _) $ split ! $ move ! (1 ∷ []) $ split ! $ move ! (1 ∷ 3 ∷ []) $ drop ! $ drop ! $ move ! (1 ∷ 0 ∷ []) $
-        land ! (from ! (stop !)) (init ! 30 refl (LL.lawful Ch.the-type Ch′.the-laws 𝓤 H A W .typed t _ gc .0)) $
+        land ! (from ! (stop !)) (init ! 30 refl (changed-typed W t gc)) $
         reborrows ! refl refl (look-in ! 48 (sub ! 0 refl (whole !))) (init ! 8 refl (tt, tt)) (look ! 8 refl) (look-in ! 48 (sub ! 1 refl (whole !))) (init ! 6 refl (tt, (tt, (record { fits = room .0 }, tt)))) $
         let parts = LL.owed Ch.the-type Ch′.the-laws t _ gc in
         move ! (5 ∷ 4 ∷ []) $ calls-put mem run κ q b o γ ys ! fm kp f (t .session) gf (parts .1 .0) (and-then ! (local ! 5 refl) (and-then ! (local ! 35 refl) (and-then ! (load ! (from ! (fld ! refl (stop !))) (look-in ! 29 (sub ! 1 refl (whole !)))) (no-more !)))) (λ zs ez lz.

@@ -1,6 +1,6 @@
 -- Right because the record that lookup takes for the id that the message names opens it, and the table is a `&`. A walk of the MIR, by hand: the message is lent as `&` for `session_id`, comes back, and goes to `open_record` for good.
 -- Assumes nothing.
-use Rattle.sessions.proofs.Kit.{_≡_, refl, ℕ, List, [], _∷_, length, URA, fullShare, named, w64, Val, vint, SProp, ent, sep, emp, via, id⊢, fst∗, Lft, GName, Share, ftrue, flft, Memory, Routine, Heap, Calls, Loops, WpFn, Tables, Atoms, sem, Fun, givenOf, tables, tablesOf, Given, ‵, raw, _⊛_, ⋆, _$_, _∵_, !, qed, by, move, keep, drop, use1, use2, split, join, fsplit, fjoin, feqL, suffices, frame, done, whole, sub, look-in, look, init, stop, from, land, no-more, and-then, returns, enter, alloc1, alloc0, params1, pass1, pass0, FmC, fmOf, WpFn-mono, owns, Is, uint-tells, u8, RefT, now, sliceVal, MutSlice, ShrSlice, Room, finally, slice-vals, mut-slice-tells, shr-slice-tells, shr-slice-copy, plain, owned, nothing, Vals, onEntry, Meets, tripleOf, Contract, Triple, entered, cited, says, Stays, stay-none, stay-none-slice, gave-slice, walkOf, goes-none, goes-none-slice, goes-gave-slice, ends-at, walked, walk-meets, yes}
+use Rattle.sessions.proofs.Kit.{_≡_, refl, ℕ, List, [], _∷_, length, URA, fullShare, named, w64, Val, vint, SProp, ent, sep, emp, via, id⊢, fst∗, Lft, GName, Share, ftrue, flft, Memory, Routine, Heap, Calls, Loops, WpFn, Tables, Atoms, sem, Fun, givenOf, tables, tablesOf, Given, ‵, raw, _⊛_, ⋆, _$_, _∵_, !, qed, by, move, keep, drop, use1, use2, split, join, fsplit, fjoin, feqL, suffices, frame, done, whole, sub, look-in, look, init, stop, from, land, no-more, and-then, returns, enter, alloc1, alloc0, params1, pass1, pass0, FmC, fmOf, WpFn-mono, owns, Is, uint-tells, u8, RefT, now, sliceVal, MutSlice, ShrSlice, Room, finally, slice-vals, mut-slice-tells, shr-slice-tells, shr-slice-copy, plain, nothing, Vals, onEntry, Meets, tripleOf, Contract, Triple, entered, cited, says, Stays, stay-none, stay-none-slice, gave-slice, walkOf, goes-none, goes-none-slice, goes-gave-slice, ends-at, walked, walk-meets, yes}
 use denote.Struct.Laws as LL
 use denote.Enum.Laws as EL
 use Rattle.session.specs.declared.Session.{Session}
@@ -17,6 +17,7 @@ use Rattle.session.proofs.Connection.Laws as Cn′
 use Rattle.compound.proofs.Outcome as An
 use Rattle.compound.proofs.Outcome.Laws as An′
 use Rattle.sessions.proofs.Walk.{R, mach, typed, record-owned}
+use Rattle.sessions.proofs.Values.{ConnectionT, OutcomeT, mach-c, mach-a, connection-typed, outcome-typed, connection-owned, outcome-owned}
 use Rattle.sessions.proofs.Leaving.{leaves, holds}
 use Rattle.sessions.proofs.Operands.{local, reborrows}
 use Rattle.sessions.proofs.Said.{calls-said}
@@ -38,14 +39,7 @@ use Rattle.sessions.proofs.open.Statement as stated
 use Rattle.sessions.proofs.open.Code as code
 
 abbrev stayed : Stays (opening.ended .signature .params) (opening.ended .kept)
-stayed = (stay-none-slice (0 ∷ []) tt (plain (λ _. R)) yes, (stay-none (λ _. Cn.the-row) yes, (gave-slice (1 ∷ []) tt (plain (λ _. u8)), tt)))
-
--- machine values
-abbrev mach-c : Connection → Val
-mach-c c = LL.val Cn.the-type Cn′.the-laws c
-
-abbrev mach-a : Outcome → Val
-mach-a r = EL.val An.the-type An′.the-laws r
+stayed = (stay-none-slice (0 ∷ []) tt (plain (λ _. R)) yes, (stay-none (λ _. ConnectionT) yes, (gave-slice (1 ∷ []) tt (plain (λ _. u8)), tt)))
 
 module _ {M : Type 1} (𝓤 : URA M) (H : Heap 𝓤) (A : Atoms 𝓤) (mem : Memory → SProp 𝓤) (run : Routine → Fun 𝓤) where
   abbrev Ids : Contract 𝓤
@@ -64,13 +58,13 @@ module _ {M : Type 1} (𝓤 : URA M) (H : Heap 𝓤) (A : Atoms 𝓤) (mem : Mem
     abbrev to-open : Session → Connection → Opens .Ghost
     to-open s c = (((μ, tt), (p, tt), tt, (s, (c, (ref-at b o γ ms, tt))), (mach s ∷ [], (mach-c c ∷ [], (sliceVal (b, o) (length ms) ∷ [], tt)))), tt)
 
-    asks-open : Given 𝓤 H A → (s : Session) (c : Connection) → Is R s (mach s ∷ []) → Is Cn.the-row c (mach-c c ∷ []) → ent 𝓤 (sep 𝓤 (A .lft μ p) (sem 𝓤 H A (MutSlice (named 1) μ u8 .own (ref-at b o γ ms) (sliceVal (b, o) (length ms) ∷ [])))) (Opens .pre (to-open s c))
+    asks-open : Given 𝓤 H A → (s : Session) (c : Connection) → Is R s (mach s ∷ []) → Is ConnectionT c (mach-c c ∷ []) → ent 𝓤 (sep 𝓤 (A .lft μ p) (sem 𝓤 H A (MutSlice (named 1) μ u8 .own (ref-at b o γ ms) (sliceVal (b, o) (length ms) ∷ [])))) (Opens .pre (to-open s c))
     asks-open W s c gs gc =
         qed W (‵ (flft μ p) ∷ ‵ (MutSlice (named 1) μ u8 .own (ref-at b o γ ms) (sliceVal (b, o) (length ms) ∷ [])) ∷ []) ∵ nothing ! $ move ! (1 ∷ 0 ∷ []) $ join ! $
-        nothing ! $ move ! (2 ∷ 0 ∷ []) $ fjoin ! $ owned ! Cn.the-row (Is Cn.the-row) (LL.makes Cn.the-type Cn′.the-plain 𝓤 H A) c _ gc $ fjoin ! $ record-owned ! s _ gs $ fjoin ! $ move ! (1 ∷ 0 ∷ []) $ join ! $ frame ! $ done !
+        nothing ! $ move ! (2 ∷ 0 ∷ []) $ fjoin ! $ connection-owned ! c _ gc $ fjoin ! $ record-owned ! s _ gs $ fjoin ! $ move ! (1 ∷ 0 ∷ []) $ join ! $ frame ! $ done !
 
 module _ {M : Type 1} (𝓤 : URA M) (H : Heap 𝓤) (A : Atoms 𝓤) (W : Given 𝓤 H A) (mem : Memory → SProp 𝓤) (run : Routine → Fun 𝓤) (κ μ : Lft) (q p : Share) (b o : ℕ) (γ : GName) (ys : List Session) (c : Connection) (b′ o′ : ℕ) (γ′ : GName) (ms : List ℕ)
-    (room : Room R (length ys)) (gc : Is Cn.the-row c (mach-c c ∷ [])) (room′ : Room u8 (length ms)) where
+    (room : Room R (length ys)) (gc : Is ConnectionT c (mach-c c ∷ [])) (room′ : Room u8 (length ms)) where
   abbrev a : RefT (List Session) × (Connection × (RefT (List ℕ) × Unit {0}))
   a = (ref-at b o γ ys, (c, (ref-at b′ o′ γ′ ms, tt)))
 
@@ -86,21 +80,21 @@ module _ {M : Type 1} (𝓤 : URA M) (H : Heap 𝓤) (A : Atoms 𝓤) (W : Given
   abbrev Post : Val → SProp 𝓤
   Post = walkOf 𝓤 H A opening.ended stayed (opening.clauses 𝓤 H A mem run) .post (((κ, (μ, tt)), (q, (p, tt)), tt, a, vals), tt)
 
-  exits : (r : Outcome) (fs : List ℕ) → Is An.the-row r (mach-a r ∷ []) → length fs ≡ length ms → OpensInTable (connectionOf c) ms fs (tableOf ys) (answerOf r)
+  exits : (r : Outcome) (fs : List ℕ) → Is OutcomeT r (mach-a r ∷ []) → length fs ≡ length ms → OpensInTable (connectionOf c) ms fs (tableOf ys) (answerOf r)
       → ent 𝓤 (⋆ 𝓤 H A (‵ (flft κ q) ∷ ‵ (flft μ p) ∷ ‵ (Shr κ b o γ ys) ∷ ‵ (finally u8 γ′ fs) ∷ [])) (Post (mach-a r))
   exits r fs is lf said =
       qed W (‵ (flft κ q) ∷ ‵ (flft μ p) ∷ ‵ (Shr κ b o γ ys) ∷ ‵ (finally u8 γ′ fs) ∷ []) ∵
       suffices ! _ (ends-at 𝓤 H A opening.ended stayed (opening.clauses 𝓤 H A mem run) W (((κ, (μ, tt)), (q, (p, tt)), tt, a, vals), tt) (mach-a r) r (tt, (tt, (fs, tt))) (tt, (tt, (lf, tt)))) $ says ! said $
       nothing ! $ move ! (2 ∷ 0 ∷ []) $ join ! $ move ! (1 ∷ 0 ∷ []) $ join ! $ frame ! $
-      nothing ! $ move ! (2 ∷ 0 ∷ []) $ fjoin ! $ owned ! Cn.the-row (Is Cn.the-row) (LL.makes Cn.the-type Cn′.the-plain 𝓤 H A) c _ gc $ fjoin ! $ move ! (1 ∷ 0 ∷ []) $ fjoin ! $ frame ! $
-      owned ! An.the-row (Is An.the-row) (EL.makes An.the-type An′.the-plain 𝓤 H A) r _ is $ done !
+      nothing ! $ move ! (2 ∷ 0 ∷ []) $ fjoin ! $ connection-owned ! c _ gc $ fjoin ! $ move ! (1 ∷ 0 ∷ []) $ fjoin ! $ frame ! $
+      outcome-owned ! r _ is $ done !
 
   module _ (C : Calls 𝓤 H) (Λ : Loops 𝓤 H) (fm : FmC 𝓤 H (W .laws) C) (ki : Triple 𝓤 (C #session·session-id) (Ids 𝓤 H A mem run)) (kl : Triple 𝓤 (C #sessions·lookup) (Looks 𝓤 H A mem run)) (ko : Triple 𝓤 (C #session·open-record) (Opens 𝓤 H A mem run)) where
     walk : ent 𝓤 (onEntry 𝓤 H A opening.signature (κ, (μ, tt)) (q, (p, tt)) a vals) (WpFn 𝓤 H C Λ code.function (sl ∷ mach-c c ∷ ml ∷ []) Post)
     walk =
-        qed W ((‵ (flft κ q) ⊛ (‵ (flft μ p) ⊛ ‵ ftrue)) ∷ ‵ (owns (ShrSlice (named 0) κ R ∷ Cn.the-row ∷ MutSlice (named 1) μ u8 ∷ []) a vals) ∷ []) ∵ enter ! C Λ code.function (sl ∷ mach-c c ∷ ml ∷ []) _ $
+        qed W ((‵ (flft κ q) ⊛ (‵ (flft μ p) ⊛ ‵ ftrue)) ∷ ‵ (owns (ShrSlice (named 0) κ R ∷ ConnectionT ∷ MutSlice (named 1) μ u8 ∷ []) a vals) ∷ []) ∵ enter ! C Λ code.function (sl ∷ mach-c c ∷ ml ∷ []) _ $
         alloc1 ! (λ l₀. alloc1 ! (λ l₁. alloc1 ! (λ l₂. alloc1 ! (λ l₃. alloc1 ! (λ l₄. alloc1 ! (λ l₅. alloc1 ! (λ l₆. alloc1 ! (λ l₇. alloc1 ! (λ l₈. alloc1 ! (λ l₉. alloc0 ! $ params1 ! $
-        pass1 ! (init ! 16 refl (tt, (tt, (record { fits = room .0 }, tt)))) $ pass1 ! (init ! 14 refl (LL.lawful Cn.the-type Cn′.the-laws 𝓤 H A W .typed c _ gc .0)) $ pass1 ! (init ! 12 refl (tt, (tt, (record { fits = room′ .0 }, tt)))) $ pass0 ! $
+        pass1 ! (init ! 16 refl (tt, (tt, (record { fits = room .0 }, tt)))) $ pass1 ! (init ! 14 refl (connection-typed W c gc)) $ pass1 ! (init ! 12 refl (tt, (tt, (record { fits = room′ .0 }, tt)))) $ pass0 ! $
         -- [_9; …; _0; …; the tokens; what the parameters own]  to  [the message; its token; the table's token; the table; _9; …]
         move ! (21 ∷ []) $ fsplit ! $ move ! (1 ∷ []) $ fsplit ! $ drop ! $ fsplit ! $ move ! (1 ∷ []) $ drop ! $
         move ! (22 ∷ []) $ split ! $ move ! (1 ∷ []) $ split ! $ move ! (1 ∷ []) $ drop ! $ move ! (2 ∷ 0 ∷ []) $
@@ -120,13 +114,13 @@ module _ {M : Type 1} (𝓤 : URA M) (H : Heap 𝓤) (A : Atoms 𝓤) (W : Given
         move ! (3 ∷ 2 ∷ []) $ use2 W (raw (Opens 𝓤 H A mem run .pre (to-open 𝓤 H A mem run μ p b′ o′ γ′ ms s c))) (asks-open 𝓤 H A mem run μ p b′ o′ γ′ ms W s c gs gc) $
         calls-said open-record.ended (open-record.clauses 𝓤 H A mem run) ! fm ko (to-open 𝓤 H A mem run μ p b′ o′ γ′ ms s c) (λ r ws. OpensWith (sessionOf s) (connectionOf c) ms (ws .1 .1 .0) (answerOf r)) (λ r ws. id⊢ 𝓤 _) mach-a (EL.tells An.the-type An′.the-laws) (and-then ! (local ! 11 refl) (and-then ! (local ! 17 refl) (and-then ! (local ! 3 refl) (no-more !)))) (λ r ws said gr.
         use1 W (‵ (flft μ p) ⊛ ‵ ftrue) (id⊢ 𝓤 _) $ split ! $ move ! (1 ∷ []) $ drop ! $ move ! (1 ∷ []) $ fsplit ! $ drop ! $ fsplit ! $ drop ! $ fsplit ! $ fsplit ! $ move ! (1 ∷ []) $ feqL ! (λ lf. move ! (1 ∷ []) $ drop ! $ move ! (1 ∷ 0 ∷ []) $
-        land ! (from ! (stop !)) (init ! 22 refl (EL.lawful An.the-type An′.the-laws 𝓤 H A W tt .typed r _ gr .0)) $
+        land ! (from ! (stop !)) (init ! 22 refl (outcome-typed W r gr)) $
         returns ! (look ! 22 refl) $ leaves ! 4 (holds _ ∷ holds _ ∷ holds _ ∷ holds _ ∷ holds _ ∷ holds _ ∷ holds _ ∷ holds _ ∷ holds _ ∷ holds _ ∷ []) refl $
         keep ! (2 ∷ 0 ∷ 3 ∷ 1 ∷ []) $ by ! (exits r (ws .1 .1 .0) gr lf (opened-says (connectionOf c) ms (tableOf ys) id (ws .1 .1 .0) (sessionOf s) (answerOf r) e₀ e said)))))))))))))))))
 
 open-meets : {M : Type 1} (𝓤 : URA M) (H : Heap 𝓤) (A : Atoms 𝓤) (W : Given 𝓤 H A) (mem : Memory → SProp 𝓤) (run : Routine → Fun 𝓤) (𝓣 : Tables 𝓤 H) → Triple 𝓤 (𝓣 .C #session·session-id) (Ids 𝓤 H A mem run) → Triple 𝓤 (𝓣 .C #sessions·lookup) (Looks 𝓤 H A mem run) → Triple 𝓤 (𝓣 .C #session·open-record) (Opens 𝓤 H A mem run) → Meets 𝓤 H A opening.signature (WpFn 𝓤 H (𝓣 .C) (𝓣 .Λ) code.function) (opening.spec 𝓤 H A mem run)
 open-meets 𝓤 H A W mem run 𝓣 ki kl ko =
-    walk-meets 𝓤 H A opening.ended stayed W (goes-none-slice 𝓤 H A W 2 (0 ∷ []) tt (plain (λ _. R)) yes, (goes-none 𝓤 H A W 2 (λ _. Cn.the-row) yes (λ κs x f. refl), (goes-gave-slice 𝓤 H A W 2 1 tt (plain (λ _. u8)), tt))) (opening.clauses 𝓤 H A mem run)
+    walk-meets 𝓤 H A opening.ended stayed W (goes-none-slice 𝓤 H A W 2 (0 ∷ []) tt (plain (λ _. R)) yes, (goes-none 𝓤 H A W 2 (λ _. ConnectionT) yes (λ κs x f. refl), (goes-gave-slice 𝓤 H A W 2 1 tt (plain (λ _. u8)), tt))) (opening.clauses 𝓤 H A mem run)
     (WpFn 𝓤 H (𝓣 .C) (𝓣 .Λ) code.function) (WpFn-mono 𝓤 H (W .laws) 𝓣 code.function)
     (walked 𝓤 H A opening.ended stayed (opening.clauses 𝓤 H A mem run) (WpFn 𝓤 H (𝓣 .C) (𝓣 .Λ) code.function)
     (λ κs. (slice-vals, (LL.vals Cn.the-type Cn′.the-laws, (slice-vals, tt)))) (λ κs. (shr-slice-tells (named 0) (κs .0) R, (LL.tells Cn.the-type Cn′.the-laws, (mut-slice-tells (named 1) (κs .1 .0) u8, tt))))

@@ -8,6 +8,7 @@ use Rattle.session.specs.OneRecord.{removedOf}
 use Rattle.session.proofs.Changed as Ch
 use Rattle.session.proofs.Changed.Laws as Ch′
 use Rattle.sessions.proofs.Walk.{R, mach, typed, record-owned}
+use Rattle.sessions.proofs.Values.{mach-t, changed-typed}
 use Rattle.sessions.proofs.Leaving.{leaves, holds}
 use Rattle.sessions.proofs.Operands.{local, reborrows}
 use Rattle.protocol.specs.SessionTable.{removeNumber, tableAfterRemoving}
@@ -35,9 +36,6 @@ use Rattle.sessions.proofs.remove.Code as code
 
 abbrev stayed : Stays (remove.ended .signature .params) (remove.ended .kept)
 stayed = (gave-slice (0 ∷ []) tt (plain (λ _. R)), (stay-none (λ _. u64) yes, tt))
-
-abbrev mach-t : Changed → Val
-mach-t t = LL.val Ch.the-type Ch′.the-laws t
 
 module _ {M : Type 1} (𝓤 : URA M) (H : Heap 𝓤) (A : Atoms 𝓤) (mem : Memory → SProp 𝓤) (run : Routine → Fun 𝓤) where
   abbrev Removes : Contract 𝓤
@@ -91,7 +89,7 @@ module _ {M : Type 1} (𝓤 : URA M) (H : Heap 𝓤) (A : Atoms 𝓤) (W : Given
         back R (named 0) κ q γ b o ys ! tt ν δ room $
         use0 W (raw (Removes 𝓤 H A mem run .pre (to-remove 𝓤 H A mem run s))) (asks-remove 𝓤 H A mem run W s gs) $
         calls-said remove-record.ended (remove-record.clauses 𝓤 H A mem run) ! fm kr (to-remove 𝓤 H A mem run s) (λ t ws. t ≡ removedOf s) (λ t ws. id⊢ 𝓤 _) mach-t (LL.tells Ch.the-type Ch′.the-laws) (and-then ! (local ! 19 refl) (no-more !)) (λ t ws et gt. drop ! $ drop ! $
-        land ! (from ! (stop !)) (init ! 16 refl (LL.lawful Ch.the-type Ch′.the-laws 𝓤 H A W .typed t _ gt .0)) $
+        land ! (from ! (stop !)) (init ! 16 refl (changed-typed W t gt)) $
         reborrows ! refl refl (look-in ! 24 (sub ! 0 refl (whole !))) (init ! 4 refl (tt, tt)) (look ! 4 refl) (look-in ! 24 (sub ! 1 refl (whole !))) (init ! 2 refl (tt, (tt, (record { fits = room .0 }, tt)))) $
         let parts = LL.owed Ch.the-type Ch′.the-laws t _ gt in
         move ! (1 ∷ 0 ∷ []) $ calls-put mem run κ q b o γ ys ! fm kp i (t .session) gi (parts .1 .0) (and-then ! (local ! 1 refl) (and-then ! (local ! 19 refl) (and-then ! (load ! (from ! (fld ! refl (stop !))) (look-in ! 15 (sub ! 1 refl (whole !)))) (no-more !)))) (λ zs ez lz.

@@ -19,6 +19,7 @@ use Rattle.session.proofs.Connection.Laws as Cn′
 use Rattle.compound.proofs.Outcome as An
 use Rattle.compound.proofs.Outcome.Laws as An′
 use Rattle.sessions.proofs.Walk.{R, mach, typed, record-owned}
+use Rattle.sessions.proofs.Values.{ConnectionT, OutcomeT, mach-c, mach-a, connection-typed, outcome-typed, connection-owned, outcome-owned}
 use Rattle.sessions.proofs.Leaving.{leaves, holds}
 use Rattle.sessions.proofs.Operands.{local, reborrows}
 use Rattle.sessions.proofs.Said.{calls-said}
@@ -43,14 +44,7 @@ use Rattle.sessions.proofs.seal.Statement as stated
 use Rattle.sessions.proofs.seal.Code as code
 
 abbrev stayed : Stays (seal.ended .signature .params) (seal.ended .kept)
-stayed = (gave-slice (0 ∷ []) tt (plain (λ _. R)), (stay-none (λ _. Cn.the-row) yes, (stay-none (λ _. u64) yes, (gave-slice (1 ∷ []) tt (plain (λ _. u8)), tt))))
-
--- machine values
-abbrev mach-c : Connection → Val
-mach-c c = LL.val Cn.the-type Cn′.the-laws c
-
-abbrev mach-a : Outcome → Val
-mach-a r = EL.val An.the-type An′.the-laws r
+stayed = (gave-slice (0 ∷ []) tt (plain (λ _. R)), (stay-none (λ _. ConnectionT) yes, (stay-none (λ _. u64) yes, (gave-slice (1 ∷ []) tt (plain (λ _. u8)), tt))))
 
 module _ {M : Type 1} (𝓤 : URA M) (H : Heap 𝓤) (A : Atoms 𝓤) (mem : Memory → SProp 𝓤) (run : Routine → Fun 𝓤) where
   abbrev Seals : Contract 𝓤
@@ -62,21 +56,21 @@ module _ {M : Type 1} (𝓤 : URA M) (H : Heap 𝓤) (A : Atoms 𝓤) (mem : Mem
   abbrev to-how-far : Outcome → HowFar .Ghost
   to-how-far r = ((tt, tt, tt, (r, tt), (mach-a r ∷ [], tt)), tt)
 
-  asks-how-far : Given 𝓤 H A → (r : Outcome) → Is An.the-row r (mach-a r ∷ []) → ent 𝓤 (emp 𝓤) (HowFar .pre (to-how-far r))
-  asks-how-far W r gr = qed W [] ∵ nothing ! $ owned ! An.the-row (Is An.the-row) (EL.makes An.the-type An′.the-plain 𝓤 H A) r _ gr $ fjoin ! $ nothing ! $ join ! $ frame ! $ done !
+  asks-how-far : Given 𝓤 H A → (r : Outcome) → Is OutcomeT r (mach-a r ∷ []) → ent 𝓤 (emp 𝓤) (HowFar .pre (to-how-far r))
+  asks-how-far W r gr = qed W [] ∵ nothing ! $ outcome-owned ! r _ gr $ fjoin ! $ nothing ! $ join ! $ frame ! $ done !
 
   module _ (μ : Lft) (p : Share) (b o : ℕ) (γ : GName) (ms : List ℕ) (s : Session) (c : Connection) (id : ℕ) where
     abbrev to-seal : Seals .Ghost
     to-seal = (((μ, tt), (p, tt), tt, (s, (c, (id, (ref-at b o γ ms, tt)))), (mach s ∷ [], (mach-c c ∷ [], (vint w64 id ∷ [], (sliceVal (b, o) (length ms) ∷ [], tt))))), tt)
 
-    asks-seal : Given 𝓤 H A → Is R s (mach s ∷ []) → Is Cn.the-row c (mach-c c ∷ []) → id < 2 ^ 64 → ent 𝓤 (sep 𝓤 (A .lft μ p) (sem 𝓤 H A (MutSlice (named 1) μ u8 .own (ref-at b o γ ms) (sliceVal (b, o) (length ms) ∷ [])))) (Seals .pre to-seal)
+    asks-seal : Given 𝓤 H A → Is R s (mach s ∷ []) → Is ConnectionT c (mach-c c ∷ []) → id < 2 ^ 64 → ent 𝓤 (sep 𝓤 (A .lft μ p) (sem 𝓤 H A (MutSlice (named 1) μ u8 .own (ref-at b o γ ms) (sliceVal (b, o) (length ms) ∷ [])))) (Seals .pre to-seal)
     asks-seal W gs gc fits =
         qed W (‵ (flft μ p) ∷ ‵ (MutSlice (named 1) μ u8 .own (ref-at b o γ ms) (sliceVal (b, o) (length ms) ∷ [])) ∷ []) ∵ nothing ! $ move ! (1 ∷ 0 ∷ []) $ join ! $
-        nothing ! $ move ! (2 ∷ 0 ∷ []) $ fjoin ! $ owned ! u64 (Is u64) (uint-makes 𝓤 H A W w64) id _ (refl, fits) $ fjoin ! $ owned ! Cn.the-row (Is Cn.the-row) (LL.makes Cn.the-type Cn′.the-plain 𝓤 H A) c _ gc $ fjoin ! $
+        nothing ! $ move ! (2 ∷ 0 ∷ []) $ fjoin ! $ owned ! u64 (Is u64) (uint-makes 𝓤 H A W w64) id _ (refl, fits) $ fjoin ! $ connection-owned ! c _ gc $ fjoin ! $
         record-owned ! s _ gs $ fjoin ! $ move ! (1 ∷ 0 ∷ []) $ join ! $ frame ! $ done !
 
 module _ {M : Type 1} (𝓤 : URA M) (H : Heap 𝓤) (A : Atoms 𝓤) (W : Given 𝓤 H A) (mem : Memory → SProp 𝓤) (run : Routine → Fun 𝓤) (κ μ : Lft) (q p : Share) (b o : ℕ) (γ : GName) (ys : List Session) (c : Connection) (id : ℕ) (b′ o′ : ℕ) (γ′ : GName) (ms : List ℕ)
-    (room : Room R (length ys)) (gc : Is Cn.the-row c (mach-c c ∷ [])) (id-fits : id < 2 ^ 64) (room′ : Room u8 (length ms)) where
+    (room : Room R (length ys)) (gc : Is ConnectionT c (mach-c c ∷ [])) (id-fits : id < 2 ^ 64) (room′ : Room u8 (length ms)) where
   abbrev a : RefT (List Session) × (Connection × (ℕ × (RefT (List ℕ) × Unit {0})))
   a = (ref-at b o γ ys, (c, (id, (ref-at b′ o′ γ′ ms, tt))))
 
@@ -92,7 +86,7 @@ module _ {M : Type 1} (𝓤 : URA M) (H : Heap 𝓤) (A : Atoms 𝓤) (W : Given
   abbrev Post : Val → SProp 𝓤
   Post = walkOf 𝓤 H A seal.ended stayed (seal.clauses 𝓤 H A mem run) .post (((κ, (μ, tt)), (q, (p, tt)), tt, a, vals), tt)
 
-  exits : (r : Outcome) (zs : List Session) (fs : List ℕ) → Is An.the-row r (mach-a r ∷ []) → length zs ≡ length ys → length fs ≡ length ms
+  exits : (r : Outcome) (zs : List Session) (fs : List ℕ) → Is OutcomeT r (mach-a r ∷ []) → length zs ≡ length ys → length fs ≡ length ms
       → SealsInTable (connectionOf c) id ms fs (tableOf ys) (tableOf zs) (answerOf r)
       → ent 𝓤 (⋆ 𝓤 H A (‵ (flft κ q) ∷ ‵ (flft μ p) ∷ ‵ (finally R γ zs) ∷ ‵ (finally u8 γ′ fs) ∷ [])) (Post (mach-a r))
   exits r zs fs is lz lf said =
@@ -100,15 +94,15 @@ module _ {M : Type 1} (𝓤 : URA M) (H : Heap 𝓤) (A : Atoms 𝓤) (W : Given
       suffices ! _ (ends-at 𝓤 H A seal.ended stayed (seal.clauses 𝓤 H A mem run) W (((κ, (μ, tt)), (q, (p, tt)), tt, a, vals), tt) (mach-a r) r (zs, (tt, (tt, (fs, tt)))) (lz, (tt, (tt, (lf, tt))))) $ says ! said $
       nothing ! $ move ! (2 ∷ 0 ∷ []) $ join ! $ move ! (1 ∷ 0 ∷ []) $ join ! $ frame ! $
       -- [the table's last list; the message's]
-      nothing ! $ move ! (2 ∷ 0 ∷ []) $ fjoin ! $ owned ! u64 (Is u64) (uint-makes 𝓤 H A W w64) id _ (refl, id-fits) $ fjoin ! $ owned ! Cn.the-row (Is Cn.the-row) (LL.makes Cn.the-type Cn′.the-plain 𝓤 H A) c _ gc $ fjoin ! $ move ! (1 ∷ 0 ∷ []) $ fjoin ! $ frame ! $
-      owned ! An.the-row (Is An.the-row) (EL.makes An.the-type An′.the-plain 𝓤 H A) r _ is $ done !
+      nothing ! $ move ! (2 ∷ 0 ∷ []) $ fjoin ! $ owned ! u64 (Is u64) (uint-makes 𝓤 H A W w64) id _ (refl, id-fits) $ fjoin ! $ connection-owned ! c _ gc $ fjoin ! $ move ! (1 ∷ 0 ∷ []) $ fjoin ! $ frame ! $
+      outcome-owned ! r _ is $ done !
 
   module _ (C : Calls 𝓤 H) (Λ : Loops 𝓤 H) (fm : FmC 𝓤 H (W .laws) C) (kl : Triple 𝓤 (C #sessions·lookup) (Looks 𝓤 H A mem run)) (ks : Triple 𝓤 (C #session·seal-record) (Seals 𝓤 H A mem run)) (kh : Triple 𝓤 (C #session·counter-moves) (HowFar 𝓤 H A mem run)) (kp : Triple 𝓤 (C #sessions·step) (Moves 𝓤 H A mem run)) where
     walk : ent 𝓤 (onEntry 𝓤 H A seal.signature (κ, (μ, tt)) (q, (p, tt)) a vals) (WpFn 𝓤 H C Λ code.function (sl ∷ mach-c c ∷ vint w64 id ∷ ml ∷ []) Post)
     walk =
-        qed W ((‵ (flft κ q) ⊛ (‵ (flft μ p) ⊛ ‵ ftrue)) ∷ ‵ (owns (MutSlice (named 0) κ R ∷ Cn.the-row ∷ u64 ∷ MutSlice (named 1) μ u8 ∷ []) a vals) ∷ []) ∵ enter ! C Λ code.function (sl ∷ mach-c c ∷ vint w64 id ∷ ml ∷ []) _ $
+        qed W ((‵ (flft κ q) ⊛ (‵ (flft μ p) ⊛ ‵ ftrue)) ∷ ‵ (owns (MutSlice (named 0) κ R ∷ ConnectionT ∷ u64 ∷ MutSlice (named 1) μ u8 ∷ []) a vals) ∷ []) ∵ enter ! C Λ code.function (sl ∷ mach-c c ∷ vint w64 id ∷ ml ∷ []) _ $
         alloc1 ! (λ l₀. alloc1 ! (λ l₁. alloc1 ! (λ l₂. alloc1 ! (λ l₃. alloc1 ! (λ l₄. alloc1 ! (λ l₅. alloc1 ! (λ l₆. alloc1 ! (λ l₇. alloc1 ! (λ l₈. alloc1 ! (λ l₉. alloc1 ! (λ l₁₀. alloc1 ! (λ l₁₁. alloc1 ! (λ l₁₂. alloc1 ! (λ l₁₃. alloc1 ! (λ l₁₄. alloc0 ! $ params1 ! $
-        pass1 ! (init ! 26 refl (tt, (tt, (record { fits = room .0 }, tt)))) $ pass1 ! (init ! 24 refl (LL.lawful Cn.the-type Cn′.the-laws 𝓤 H A W .typed c _ gc .0)) $ pass1 ! (init ! 22 refl (tt, record { fits = id-fits })) $ pass1 ! (init ! 20 refl (tt, (tt, (record { fits = room′ .0 }, tt)))) $ pass0 ! $
+        pass1 ! (init ! 26 refl (tt, (tt, (record { fits = room .0 }, tt)))) $ pass1 ! (init ! 24 refl (connection-typed W c gc)) $ pass1 ! (init ! 22 refl (tt, record { fits = id-fits })) $ pass1 ! (init ! 20 refl (tt, (tt, (record { fits = room′ .0 }, tt)))) $ pass0 ! $
         -- [_14; …; _0; …; the tokens; what the parameters own]  to  [the table; its token; the message's token; the message; _14; …]
         move ! (31 ∷ []) $ fsplit ! $ move ! (1 ∷ []) $ fsplit ! $ drop ! $ fsplit ! $ drop ! $ fsplit ! $ move ! (1 ∷ []) $ drop ! $
         move ! (32 ∷ []) $ split ! $ move ! (1 ∷ []) $ split ! $ move ! (1 ∷ []) $ drop ! $ move ! (3 ∷ 1 ∷ []) $
@@ -123,7 +117,7 @@ module _ {M : Type 1} (𝓤 : URA M) (H : Heap 𝓤) (A : Atoms 𝓤) (W : Given
         move ! (2 ∷ 3 ∷ []) $ use2 W (raw (Seals 𝓤 H A mem run .pre (to-seal 𝓤 H A mem run μ p b′ o′ γ′ ms s c id))) (asks-seal 𝓤 H A mem run μ p b′ o′ γ′ ms s c id W gs gc id-fits) $
         calls-said seal-record.ended (seal-record.clauses 𝓤 H A mem run) ! fm ks (to-seal 𝓤 H A mem run μ p b′ o′ γ′ ms s c id) (λ r ws. SealsWith (sessionOf s) (connectionOf c) id ms (ws .1 .1 .1 .0) (answerOf r)) (λ r ws. id⊢ 𝓤 _) mach-a (EL.tells An.the-type An′.the-laws) (and-then ! (local ! 21 refl) (and-then ! (local ! 27 refl) (and-then ! (local ! 25 refl) (and-then ! (local ! 9 refl) (no-more !))))) (λ r ws said gr.
         use1 W (‵ (flft μ p) ⊛ ‵ ftrue) (id⊢ 𝓤 _) $ split ! $ move ! (1 ∷ []) $ drop ! $ move ! (1 ∷ []) $ fsplit ! $ drop ! $ fsplit ! $ drop ! $ fsplit ! $ drop ! $ fsplit ! $ fsplit ! $ move ! (1 ∷ []) $ feqL ! (λ lf. move ! (1 ∷ []) $ drop ! $ move ! (1 ∷ 0 ∷ []) $
-        land ! (from ! (stop !)) (init ! 20 refl (EL.lawful An.the-type An′.the-laws 𝓤 H A W tt .typed r _ gr .0)) $
+        land ! (from ! (stop !)) (init ! 20 refl (outcome-typed W r gr)) $
         -- [the message's token; its last bytes; the table; its token; _14; …]
         use0 W (raw (HowFar 𝓤 H A mem run .pre (to-how-far 𝓤 H A mem run r))) (asks-how-far 𝓤 H A mem run W r gr) $
         calls-said counter-moves.ended (counter-moves.clauses 𝓤 H A mem run) ! fm kh (to-how-far 𝓤 H A mem run r) (λ k ws. k ≡ counterMoves (answerOf r)) (λ k ws. id⊢ 𝓤 _) (vint w64) (uint-tells w64) (and-then ! (local ! 21 refl) (no-more !)) (λ far ws′ eb gb. drop ! $ drop ! $
@@ -132,13 +126,13 @@ module _ {M : Type 1} (𝓤 : URA M) (H : Heap 𝓤) (A : Atoms 𝓤) (W : Given
         reborrows ! refl refl (look-in ! 30 (sub ! 0 refl (whole !))) (init ! 6 refl (tt, tt)) (look ! 6 refl) (look-in ! 30 (sub ! 1 refl (whole !))) (init ! 4 refl (tt, (tt, (record { fits = room .0 }, tt)))) $
         move ! (3 ∷ 2 ∷ []) $ calls-step mem run κ q b o γ ys ! fm kp id far id-fits (gb .1) (and-then ! (local ! 3 refl) (and-then ! (local ! 25 refl) (and-then ! (local ! 17 refl) (no-more !)))) (λ zs ez lz.
         land ! (from ! (stop !)) (init ! 8 refl (tt, tt)) $
-        assigns ! (of-opd ! (local ! 20 refl)) (from ! (stop !)) (init ! 32 refl (EL.lawful An.the-type An′.the-laws 𝓤 H A W tt .typed r _ gr .0)) $
+        assigns ! (of-opd ! (local ! 20 refl)) (from ! (stop !)) (init ! 32 refl (outcome-typed W r gr)) $
         returns ! (look ! 32 refl) $ leaves ! 4 (holds _ ∷ holds _ ∷ holds _ ∷ holds _ ∷ holds _ ∷ holds _ ∷ holds _ ∷ holds _ ∷ holds _ ∷ holds _ ∷ holds _ ∷ holds _ ∷ holds _ ∷ holds _ ∷ holds _ ∷ []) refl $
         keep ! (0 ∷ 2 ∷ 1 ∷ 3 ∷ []) $ by ! (exits r zs (ws .1 .1 .1 .0) gr lz lf (sealed-says (connectionOf c) id ms (tableOf ys) (ws .1 .1 .1 .0) (sessionOf s) far (answerOf r) (tableOf zs) (LL.owed T.the-type T′.the-laws s _ gs .1 .1 .1 .1 .1 .1 .1 .1 .0 .1) e said eb ez)))))))))))))))))))))))
 
 seal-meets : {M : Type 1} (𝓤 : URA M) (H : Heap 𝓤) (A : Atoms 𝓤) (W : Given 𝓤 H A) (mem : Memory → SProp 𝓤) (run : Routine → Fun 𝓤) (𝓣 : Tables 𝓤 H) → Triple 𝓤 (𝓣 .C #sessions·lookup) (Looks 𝓤 H A mem run) → Triple 𝓤 (𝓣 .C #session·seal-record) (Seals 𝓤 H A mem run) → Triple 𝓤 (𝓣 .C #session·counter-moves) (HowFar 𝓤 H A mem run) → Triple 𝓤 (𝓣 .C #sessions·step) (Moves 𝓤 H A mem run) → Meets 𝓤 H A seal.signature (WpFn 𝓤 H (𝓣 .C) (𝓣 .Λ) code.function) (seal.spec 𝓤 H A mem run)
 seal-meets 𝓤 H A W mem run 𝓣 kl ks kh kp =
-    walk-meets 𝓤 H A seal.ended stayed W (goes-gave-slice 𝓤 H A W 2 0 tt (plain (λ _. R)), (goes-none 𝓤 H A W 2 (λ _. Cn.the-row) yes (λ κs x f. refl), (goes-none 𝓤 H A W 2 (λ _. u64) yes (λ κs x f. refl), (goes-gave-slice 𝓤 H A W 2 1 tt (plain (λ _. u8)), tt)))) (seal.clauses 𝓤 H A mem run)
+    walk-meets 𝓤 H A seal.ended stayed W (goes-gave-slice 𝓤 H A W 2 0 tt (plain (λ _. R)), (goes-none 𝓤 H A W 2 (λ _. ConnectionT) yes (λ κs x f. refl), (goes-none 𝓤 H A W 2 (λ _. u64) yes (λ κs x f. refl), (goes-gave-slice 𝓤 H A W 2 1 tt (plain (λ _. u8)), tt)))) (seal.clauses 𝓤 H A mem run)
     (WpFn 𝓤 H (𝓣 .C) (𝓣 .Λ) code.function) (WpFn-mono 𝓤 H (W .laws) 𝓣 code.function)
     (walked 𝓤 H A seal.ended stayed (seal.clauses 𝓤 H A mem run) (WpFn 𝓤 H (𝓣 .C) (𝓣 .Λ) code.function)
     (λ κs. (slice-vals, (LL.vals Cn.the-type Cn′.the-laws, (uint-vals w64, (slice-vals, tt))))) (λ κs. (mut-slice-tells (named 0) (κs .0) R, (LL.tells Cn.the-type Cn′.the-laws, (uint-tells w64, (mut-slice-tells (named 1) (κs .1 .0) u8, tt)))))
