@@ -11,4 +11,5 @@ pub mod Padding
 pub mod Carrying
 pub mod Checks
 pub mod Demand2
+pub mod OtherRecords
 pub mod Example

@@ -4,17 +4,17 @@ use mathlib.Core.Path.{_≡_, refl, sym, ap, _∙_}
 use mathlib.Core.Logic.{_≢_, _⊎_, inl, inr}
 use mathlib.Core.Bool.{Bool, true, false, cond, _&&_}
 use mathlib.Core.List.{List, [], _∷_, List·Memᴰ, List·Memᴰ·head, List·Memᴰ·tail, List·Memᴰ·cases-cons}
-use Prim.Native.Nat.{ℕ}
+use Prim.Native.Nat.{ℕ, _+_}
 use native.Mathlib.Decide.{ℕ-discrete}
 use borrow.Author.Tests.{eqb-true, eq-eqb, ne-eqb, not-false}
-use lib.Dec.{eqb}
+use lib.Dec.{eqb, leb}
 use Rattle.protocol.specs.Bytes.{Bytes}
 use Rattle.protocol.specs.Answer.{Answer, done, refused}
-use Rattle.protocol.specs.SessionTable.{Session, freeRecord, isSession, recordOf, changeRecord, hasFree, fillFree, Adding, addTests, addNumber, newRecord, tableAfterAdding}
+use Rattle.protocol.specs.SessionTable.{Session, freeRecord, withCounter, isSession, recordOf, changeRecord, hasFree, fillFree, Adding, addTests, addNumber, newRecord, tableAfterAdding}
 use Rattle.protocol.specs.UnderKey.{Primitives, lastCounter}
-use Rattle.protocol.specs.Transform.{Connection, sealAnswer, countUp, sealTable, tableAfterSealing}
+use Rattle.protocol.specs.Transform.{Connection, sealAnswer, countUp, counterStep, sealTable, tableAfterSealing}
 use Rattle.protocol.proofs.Judging.{NoneApplies, passes}
-use Rattle.demands.specs.Demand3.{Call, adding, removing, sealing, opening, stepping, counterStep, Made, tableAfter, made}
+use Rattle.demands.specs.Demand3.{Call, adding, removing, sealing, opening, stepping, Made, tableAfter, made}
 
 true-not-false : {A : Type 0} → true ≡ false → A
 true-not-false e = absurd (mathlib.Core.Bool.true≢false e)
@@ -113,10 +113,11 @@ held s =
 unfoldable pub Keeps : ℕ → Session → List Session → Type 0
 Keeps i s t = held (recordOf i t) ≡ held s
 
-held-stepped : (x : Session) → held (counterStep x) ≡ held x
-held-stepped x = go (eqb (x .counter) lastCounter)
+held-stepped : (by : ℕ) (x : Session) → held (counterStep by x) ≡ held x
+unfolding counterStep
+held-stepped by x = go (leb (x .counter + by) lastCounter)
   where
-    go : (b : Bool) → held (cond b x (countUp x)) ≡ held x
+    go : (b : Bool) → held (cond b (withCounter (x .counter + by) x) x) ≡ held x
     go true = refl
     go false = refl
 
@@ -160,7 +161,7 @@ module _ (P : Primitives) (i : ℕ) (s : Session) (is : isSession i s ≡ true) 
   keeps-one (removing j) t h k = ap held (change-other i j (λ q. h (ap removing q)) (λ x. freeRecord) (λ x e. refl) t) ∙ k
   keeps-one (sealing c j m) t h k = keeps-sealing c j m t k
   keeps-one (opening c m) t h k = k
-  keeps-one (stepping j) t h k = keeps-change counterStep held-stepped j t k
+  keeps-one (stepping j by) t h k = keeps-change (counterStep by) (held-stepped by) j t k
 
   -- every call of a list that does not remove the session gets a table with its record
   pub keeps-all : (cs : List Call) (t : List Session) → ¬ List·Memᴰ (removing i) cs → Keeps i s t → (x : Made) → List·Memᴰ x (made P t cs) → Keeps i s (x .table)

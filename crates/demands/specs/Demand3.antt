@@ -2,33 +2,28 @@
 -- Over any primitives; the theorem is about the suite.
 -- Assumes nothing.
 use mathlib.Core.Path.{_≡_}
-use mathlib.Core.Bool.{true, false, cond}
+use mathlib.Core.Bool.{true, false}
 use mathlib.Core.List.{List, [], _∷_}
 use Prim.Native.Nat.{ℕ, _<_, _^_}
-use lib.Dec.{eqb}
 use Rattle.protocol.specs.Bytes.{Bytes}
 use Rattle.protocol.specs.Preauth.{Fold, foldAll, freshChain, messagesFoldedIn}
 use Rattle.protocol.specs.Answer.{done}
 use Rattle.protocol.specs.Keys.{sessionKey}
 use Rattle.protocol.specs.SessionTable.{Session, changeRecord, Adding, addNumber, tableAfterAdding, tableAfterRemoving}
 use Rattle.protocol.specs.TransformHeader.{inner}
-use Rattle.protocol.specs.UnderKey.{Primitives, lastCounter}
-use Rattle.protocol.specs.Transform.{Role, client, server, other, Connection, countUp, sealAnswer, bufferAfterSealing, tableAfterSealing, openAnswer, bufferAfterOpening}
+use Rattle.protocol.specs.UnderKey.{Primitives}
+use Rattle.protocol.specs.Transform.{Role, client, server, other, Connection, counterStep, sealAnswer, bufferAfterSealing, tableAfterSealing, openAnswer, bufferAfterOpening}
 use Rattle.demands.specs.Chains.{Among, ChainsAgree}
 
 -- ---- a list of calls over a table
 
--- a call, with all that it is lent: adding, removing, sealing, opening, and the counter step
+-- a call, with all that it is lent: adding, removing, sealing, opening, and the counter step of an id by so many
 pub data Call : Type 0 where
   adding : Adding → Call
   removing : ℕ → Call
   sealing : Connection → ℕ → Bytes → Call
   opening : Connection → Bytes → Call
-  stepping : ℕ → Call
-
--- the counter step by itself: up by one, and not past the last
-abbrev pub counterStep : Session → Session
-counterStep s = cond (eqb (s .counter) lastCounter) s (countUp s)
+  stepping : ℕ → ℕ → Call
 
 -- a call, and the table that it gets
 pub record Made : Type 0 where
@@ -41,7 +36,7 @@ module _ (P : Primitives) where
   tableAfter (removing i) t = tableAfterRemoving i t
   tableAfter (sealing c i m) t = tableAfterSealing P c i m t
   tableAfter (opening c m) t = t
-  tableAfter (stepping i) t = changeRecord counterStep i t
+  tableAfter (stepping i by) t = changeRecord (counterStep by) i t
 
   -- "Each call gets the table as the one before left it"
   abbrev pub made : List Session → List Call → List Made

@@ -5,3 +5,4 @@ pub mod Walk
 pub mod Demand1
 pub mod Opening
 pub mod Demand2
+pub mod OtherRecords

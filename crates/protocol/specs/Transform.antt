@@ -1,10 +1,11 @@
 -- Sealing and opening with the session table: document 01, "Transform header", "Keys" and the numbers 1 to 17; MS-SMB2 3.1.4.3 and
 -- 3.3.5.2.1.1.
 -- Assumes nothing.
-use mathlib.Core.Bool.{Bool, _||_, not}
+use mathlib.Core.Bool.{Bool, cond, _||_, not}
 use mathlib.Core.List.{List, [], _∷_, _++_}
 use mathlib.Core.Option.{Option, Option·getD}
 use Prim.Native.Nat.{ℕ, _+_}
+use lib.Dec.{leb}
 use lib.ListN.{take}
 use Rattle.protocol.specs.Bytes.{Bytes}
 use Rattle.protocol.specs.Answer.{Answer, Test, refuse_when_, whenDone, judge, judgeAfter}
@@ -12,7 +13,7 @@ use Rattle.protocol.specs.CompoundWalk.{walk}
 use Rattle.protocol.specs.Keys.{Keys}
 use Rattle.protocol.specs.SessionTable.{Session, recordOf, changeRecord, withCounter}
 use Rattle.protocol.specs.TransformHeader.{inner, sessionIdOf}
-use Rattle.protocol.specs.UnderKey.{Primitives, Protection, cipherUsed, sealTests, counterTests, openTests, tagTests, sealedUnder, plaintextUnder}
+use Rattle.protocol.specs.UnderKey.{Primitives, Protection, cipherUsed, lastCounter, sealTests, counterTests, openTests, tagTests, sealedUnder, plaintextUnder}
 
 pub data Role : Type 0 where
   client server : Role
@@ -45,6 +46,10 @@ recordTests c s =
 -- "The counter goes up by one and nothing else in the table changes."
 abbrev pub countUp : Session → Session
 countUp s = withCounter (s .counter + 1) s
+
+-- the counter step by itself: up by that many, and unchanged where it would pass the last
+unfoldable pub counterStep : ℕ → Session → Session
+counterStep by s = cond (leb (s .counter + by) lastCounter) (withCounter (s .counter + by) s) s
 
 abbrev pub sealTable : Answer → ℕ → List Session → List Session
 sealTable a id t = whenDone a (changeRecord countUp id t) t

@@ -2,17 +2,17 @@
 -- Assumes nothing.
 use mathlib.Core.Path.{_≡_, refl, sym, ap, _∙_}
 use mathlib.Core.Bool.{Bool, true, false, cond, not, _||_}
-use mathlib.Core.List.{List, [], _∷_, _++_}
+use mathlib.Core.List.{[], _∷_, _++_}
 use Prim.Native.Nat.{ℕ, zero, suc}
 use native.Mathlib.Omega.{arith}
 use borrow.Author.Tests.{eq-eqb, ne-eqb, eqb-true}
 use lib.Dec.{eqb}
-use lib.ListN.{length, take, drop}
+use lib.ListN.{length, take}
 use lib.Seq.{take-all}
 use Rattle.octets.specs.Numbers.{bytesAt}
 use Rattle.protocol.specs.Bytes.{Bytes}
-use Rattle.protocol.specs.Answer.{refuse_when_, firstOf}
-use Rattle.protocol.specs.Keys.{Keys, knownDialect, sessionKey, keys311, keys300, derivedKeys, keysInOrder, deriveNumber, keysAfter}
+use Rattle.protocol.specs.Answer.{firstOf}
+use Rattle.protocol.specs.Keys.{Keys, knownDialect, sessionKey, keys311, keys300, derivedKeys, keysInOrder, deriveNumber}
 use Rattle.protocol.specs.SessionTable as table
 use Rattle.protocol.specs.Suite.{kdf}
 use Rattle.protocol.proofs.SuiteLaws.{suite-sound}

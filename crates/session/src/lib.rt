@@ -4,10 +4,10 @@ mod tests;
 
 use compound::Outcome;
 ghost use mathlib.Core.Path.{_≡_};
-ghost use Rattle.protocol.specs.Transform.{sealingKey, openingKey};
+ghost use Rattle.protocol.specs.Transform.{counterStep, sealingKey, openingKey};
 ghost use Rattle.compound.specs.Outcomes.{answerOf};
 ghost use Rattle.session.specs.Records.{free, isWanted, sessionOf, roleOf, connectionOf};
-ghost use Rattle.session.specs.OneRecord.{stepped, SealsWith, OpensWith, namedId, removedOf};
+ghost use Rattle.session.specs.OneRecord.{SealsWith, counterMoves, OpensWith, namedId, removedOf};
 ghost use Rattle.session.specs.Adds.{addingOf, AddsWith};
 
 const LAST_COUNTER: u64 = 18446744073709551615;
@@ -35,12 +35,6 @@ pub struct Connection {
     pub encryption: bool,
     pub cipher: u16,
     pub constrained: bool,
-}
-
-// What sealing with one record gives: the answer, and the record after it.
-pub struct Sealed {
-    pub answer: Outcome,
-    pub session: Session,
 }
 
 // What adding takes beside the key material and the chain value.
@@ -89,16 +83,16 @@ pub fn wanted(s: Session, used: bool, id: u64) -> bool
     !there
 }
 
-// The counter step: up by one, and not past the last.
-pub fn step_record(s: Session) -> Session
-    ensures { λ r. ⌜ sessionOf r ≡ stepped (sessionOf s) ⌝ }
+// The counter step: up by that many, and unchanged where it would pass the last.
+pub fn step_record(s: Session, by: u64) -> Session
+    ensures { λ r. ⌜ sessionOf r ≡ counterStep by (sessionOf s) ⌝ }
 {
     let n = s.counter;
-    if n == LAST_COUNTER {
+    if by > LAST_COUNTER - n {
         return s;
     }
     let mut t = s;
-    t.counter = n + 1;
+    t.counter = n + by;
     t
 }
 
@@ -132,31 +126,27 @@ pub fn session_id(message: &[u8]) -> u64
     little_endian::u64_at(message, 44)
 }
 
-// Seals the message in place: 1, 2, 3, 6, 7, 8, 11 to 16, 17. Refused, the message and the record are as they were.
-pub fn seal_record(s: Session, c: Connection, id: u64, message: &mut [u8]) -> Sealed
-    ensures { λ r. ⌜ SealsWith (sessionOf s) (connectionOf c) id (now (message .entry)) (now (message .exit)) (answerOf (r .answer)) (sessionOf (r .session)) ⌝ }
+// Seals the message in place: 1, 2, 3, 6, 7, 8, 11 to 16, 17. Refused, the message is as it was.
+pub fn seal_record(s: Session, c: Connection, id: u64, message: &mut [u8]) -> Outcome
+    ensures { λ r. ⌜ SealsWith (sessionOf s) (connectionOf c) id (now (message .entry)) (now (message .exit)) (answerOf r) ⌝ }
 {
     let role = c.role;
     let first = tests::seal_number(s, c, message);
     if first != 0 {
-        return Sealed {
-            answer: Outcome::Refused(first),
-            session: s,
-        };
+        return Outcome::Refused(first);
     }
     let key = sealing_key(s, role);
     let on = tests::switch(c.encryption);
-    let out = transform::seal_under(c.dialect, on, c.cipher, &key, s.counter, id, message);
-    if compound::refused(out) {
-        return Sealed {
-            answer: out,
-            session: s,
-        };
-    }
-    let after = step_record(s);
-    Sealed {
-        answer: out,
-        session: after,
+    transform::seal_under(c.dialect, on, c.cipher, &key, s.counter, id, message)
+}
+
+// How far a sealing that answered so moves the counter.
+pub fn counter_moves(o: Outcome) -> u64
+    ensures { λ r. ⌜ r ≡ counterMoves (answerOf o) ⌝ }
+{
+    match o {
+        Outcome::Done(_) => 1,
+        Outcome::Refused(_) => 0,
     }
 }
 

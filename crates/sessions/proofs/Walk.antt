@@ -1,4 +1,4 @@
--- What the walks of this crate share: a record of a table, in memory and as a value. It says of `Session` only what the modules that `rattle check` makes of the struct say, so for a table of another plain struct change the three names of the imports.
+-- What the walks of this crate share: a record of a table, in memory and as a value. It looks at no field of `Session`.
 --     R, mach          the record's type, and a record's machine value
 --     size, place-fits the record's size in bytes, and that the place of a record of a table is a usize
 --     typed            a machine value of a record has the record's MIR type
@@ -27,7 +27,6 @@ use types.Share.{arr-parts}
 use denote.RattleType.{RattleType}
 use denote.Laws.{Is, shows}
 use denote.Memory.{mem, shares, cellAt, pointee}
-use denote.Slice.{sliceTy}
 use denote.Index.{place, others, row, elem-out, looks-slice}
 use denote.Steps.{owned}
 use denote.Struct.Laws as LL

@@ -5,14 +5,13 @@ use session::Adding;
 use session::Connection;
 use session::Session;
 ghost use mathlib.Core.Path.{_≡_};
-ghost use lib.ListN.{length, set, getD};
 ghost use Rattle.protocol.specs.SessionTable.{recordOf, changeRecord, removeNumber, tableAfterRemoving};
+ghost use Rattle.protocol.specs.Transform.{counterStep};
 ghost use Rattle.compound.specs.Outcomes.{answerOf};
-ghost use Rattle.session.specs.Records.{free, isWanted, sessionOf, connectionOf};
-ghost use Rattle.session.specs.OneRecord.{stepped};
+ghost use Rattle.session.specs.Records.{isWanted, sessionOf, connectionOf};
 ghost use Rattle.session.specs.Adds.{addingOf};
 ghost use Rattle.sessions.specs.Reading.{tableOf};
-ghost use Rattle.sessions.specs.Place.{first};
+ghost use Rattle.sessions.specs.Place.{first, recordAt, putAt};
 ghost use Rattle.sessions.specs.Calls.{AddsInTable, SealsInTable, OpensInTable};
 
 // The place of the first record that is wanted, or the table's length where there is none.
@@ -32,7 +31,7 @@ fn find(table: &[Session], used: bool, id: u64) -> usize
 
 // The record at a place, or a free one past the end.
 fn at(table: &[Session], i: usize) -> Session
-    ensures { λ r. ⌜ r ≡ getD (now (table .entry)) i free ⌝ }
+    ensures { λ r. ⌜ r ≡ recordAt i (now (table .entry)) ⌝ }
 {
     if i < table.len() {
         table[i]
@@ -43,7 +42,7 @@ fn at(table: &[Session], i: usize) -> Session
 
 // A record to a place; past the end nothing changes.
 fn put_at(table: &mut [Session], i: usize, s: Session)
-    ensures { λ _. ⌜ now (table .exit) ≡ set (now (table .entry)) i s ⌝ }
+    ensures { λ _. ⌜ now (table .exit) ≡ putAt i s (now (table .entry)) ⌝ }
 {
     if i < table.len() {
         table[i] = s;
@@ -58,13 +57,13 @@ pub fn lookup(table: &[Session], id: u64) -> Session
     at(table, i)
 }
 
-// The counter step of the session of the id: up by one, and not past the last.
-pub fn step(table: &mut [Session], id: u64)
-    ensures { λ _. ⌜ tableOf (now (table .exit)) ≡ changeRecord stepped id (tableOf (now (table .entry))) ⌝ }
+// The counter step of the session of the id: up by that many, and unchanged where it would pass the last.
+pub fn step(table: &mut [Session], id: u64, by: u64)
+    ensures { λ _. ⌜ tableOf (now (table .exit)) ≡ changeRecord (counterStep by) id (tableOf (now (table .entry))) ⌝ }
 {
     let i = find(table, true, id);
     let s = at(table, i);
-    let t = session::step_record(s);
+    let t = session::step_record(s, by);
     put_at(table, i, t);
 }
 
@@ -98,11 +97,11 @@ pub fn remove(table: &mut [Session], id: u64) -> u32
 pub fn seal(table: &mut [Session], c: Connection, id: u64, message: &mut [u8]) -> Outcome
     ensures { λ r. ⌜ SealsInTable (connectionOf c) id (now (message .entry)) (now (message .exit)) (tableOf (now (table .entry))) (tableOf (now (table .exit))) (answerOf r) ⌝ }
 {
-    let i = find(table, true, id);
-    let s = at(table, i);
-    let r = session::seal_record(s, c, id, message);
-    put_at(table, i, r.session);
-    r.answer
+    let s = lookup(table, id);
+    let out = session::seal_record(s, c, id, message);
+    let moves = session::counter_moves(out);
+    step(table, id, moves);
+    out
 }
 
 // Opens the message in place with the session that its header names: 1 to 16. Refused, the message is as it was lent.
@@ -110,7 +109,6 @@ pub fn open(table: &[Session], c: Connection, message: &mut [u8]) -> Outcome
     ensures { λ r. ⌜ OpensInTable (connectionOf c) (now (message .entry)) (now (message .exit)) (tableOf (now (table .entry))) (answerOf r) ⌝ }
 {
     let id = session::session_id(message);
-    let i = find(table, true, id);
-    let s = at(table, i);
+    let s = lookup(table, id);
     session::open_record(s, c, message)
 }

@@ -1,6 +1,6 @@
 -- Right because the tests pass one after the other, and each refusal leaves the message alone (Opening).
 -- Assumes nothing.
-use mathlib.Core.Path.{refl, sym, _∙_}
+use mathlib.Core.Path.{refl}
 use mathlib.Core.List.{_++_}
 use Rattle.protocol.specs.Transform.{recordTests}
 use Rattle.protocol.proofs.Judging.{passes}

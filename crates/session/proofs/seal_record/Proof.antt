@@ -1,6 +1,6 @@
--- Right because the tests pass one after the other, and message and counter move only where all have (Sealing).
+-- Right because the tests pass one after the other, and each refusal leaves the message alone (Sealing).
 -- Assumes nothing.
-use mathlib.Core.Path.{refl, sym, _∙_}
+use mathlib.Core.Path.{refl}
 use mathlib.Core.List.{_++_}
 use Rattle.protocol.specs.Transform.{recordTests}
 use Rattle.protocol.proofs.Judging.{passes}
@@ -8,7 +8,7 @@ use Rattle.transform.specs.UnderKey.{protectionOf}
 use Rattle.session.specs.Records.{sessionOf, connectionOf}
 use Rattle.session.proofs.Numbers.{same-protection}
 use Rattle.protocol.specs.UnderKey.{sealTests}
-use Rattle.session.proofs.Sealing.{seal-refused, seal-stays, seal-counts}
+use Rattle.session.proofs.Sealing.{seal-refused, seal-done}
 use borrow.Author.Needs.{needs}
 use Rattle.session.proofs.seal_record.Statement.{statement}
 use Rattle.session.proofs.seal_record.Tie as tie
@@ -34,23 +34,11 @@ slice-aggregate-seal-under c = search needs
 seal-under-requires : tie.Need-seal-under-requires
 seal-under-requires c κs = search needs
 
-refused-requires : tie.Need-refused-requires
-refused-requires c κs = search needs
-
 same-length-2 : tie.Need-same-length-2
 same-length-2 c = search needs
 
 returns-2 : tie.Need-returns-2
-returns-2 c = let a = c .before .before .before .before .before .before .before .before .before .before .before .before .before .args in seal-stays (connectionOf (a .c)) (sessionOf (a .s)) (a .id) (a .message .now) (passes (sealTests (connectionOf (a .c) .protection) (a .message .now) ++ recordTests (connectionOf (a .c)) (sessionOf (a .s))) _ refl (c .before .before .before .before .before .before .before .before .before .before .seal-number .ensures) (c .before .before .before .before .before .before .before .before .before .if1 .left)) (protectionOf (a .c .dialect) (c .before .before .before .before .before .before .before .switch .result) (a .c .cipher)) (same-protection (a .c .dialect) (c .before .before .before .before .before .before .before .switch .result) (a .c .cipher) (a .c .encryption) (c .before .before .before .before .before .before .before .switch .ensures)) _ (c .before .before .before .before .before .before .before .before .sealing-key .ensures) (c .before .before .before .before .before .before .before .before .sealing-key .ok .1 .0 .1) _ _ (c .before .before .before .before .seal-under .ensures) (sym (c .before .refused .ensures) ∙ c .if2 .taken)
-
-step-record-requires : tie.Need-step-record-requires
-step-record-requires c κs = search needs
-
-same-length-3 : tie.Need-same-length-3
-same-length-3 c = search needs
-
-returns-3 : tie.Need-returns-3
-returns-3 c = let a = c .before .before .before .before .before .before .before .before .before .before .before .before .before .before .args in seal-counts (connectionOf (a .c)) (sessionOf (a .s)) (a .id) (a .message .now) (passes (sealTests (connectionOf (a .c) .protection) (a .message .now) ++ recordTests (connectionOf (a .c)) (sessionOf (a .s))) _ refl (c .before .before .before .before .before .before .before .before .before .before .before .seal-number .ensures) (c .before .before .before .before .before .before .before .before .before .before .if1 .left)) (protectionOf (a .c .dialect) (c .before .before .before .before .before .before .before .before .switch .result) (a .c .cipher)) (same-protection (a .c .dialect) (c .before .before .before .before .before .before .before .before .switch .result) (a .c .cipher) (a .c .encryption) (c .before .before .before .before .before .before .before .before .switch .ensures)) _ (c .before .before .before .before .before .before .before .before .before .sealing-key .ensures) (c .before .before .before .before .before .before .before .before .before .sealing-key .ok .1 .0 .1) _ _ (c .before .before .before .before .before .seal-under .ensures) (sym (c .before .before .refused .ensures) ∙ c .before .if2 .left) _ (c .step-record .ensures)
+returns-2 c = let a = c .before .before .before .before .before .before .before .before .before .before .before .args in seal-done (connectionOf (a .c)) (sessionOf (a .s)) (a .id) (a .message .now) (passes (sealTests (connectionOf (a .c) .protection) (a .message .now) ++ recordTests (connectionOf (a .c)) (sessionOf (a .s))) _ refl (c .before .before .before .before .before .before .before .before .seal-number .ensures) (c .before .before .before .before .before .before .before .if1 .left)) (protectionOf (a .c .dialect) (c .before .before .before .before .before .switch .result) (a .c .cipher)) (same-protection (a .c .dialect) (c .before .before .before .before .before .switch .result) (a .c .cipher) (a .c .encryption) (c .before .before .before .before .before .switch .ensures)) _ (c .before .before .before .before .before .before .sealing-key .ensures) (c .before .before .before .before .before .before .sealing-key .ok .1 .0 .1) _ _ (c .before .before .seal-under .ensures)
 
 pub seal-record-spec : {M : Type 1} → statement M
 seal-record-spec =
@@ -63,9 +51,5 @@ seal-record-spec =
     switch-requires
     slice-aggregate-seal-under
     seal-under-requires
-    refused-requires
     same-length-2
-    returns-2
-    step-record-requires
-    same-length-3
-    returns-3)
+    returns-2)

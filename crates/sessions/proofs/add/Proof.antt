@@ -1,6 +1,6 @@
--- `sessions::add` meets its contract: a walk of its MIR, by hand. The table is lent as `&` for two searches, comes back, and goes to `put_at` for good; `add_record` has a copy of each of the two `&[u8]`.
+-- Right because the place written is the first free one, and what goes there is the new record, or what stood there where a test refuses. A walk of the MIR, by hand: the table is lent as `&` for two searches, comes back, and goes to `put_at` for good; `add_record` has a copy of each of the two `&[u8]`.
 -- Assumes nothing.
-use Rattle.sessions.proofs.Kit.{_≡_, refl, _∙_, ap, ℕ, Bool, true, false, List, [], _∷_, length, getD, set, ltb, lit<, URA, fullShare, named, Val, vbool, SProp, ent, sep, emp, via, id⊢, fst∗, Lft, GName, Share, ftrue, flft, Memory, Routine, Heap, Calls, Loops, WpFn, Tables, Atoms, sem, Fun, givenOf, tables, tablesOf, Given, ‵, raw, _⊛_, ⋆, _$_, _∵_, !, qed, by, move, keep, drop, use1, use2, split, join, fsplit, fjoin, suffices, frame, done, whole, sub, look-in, agg, look, init, forget, stop, hop, fld, from, load, lit, true-lit, false-lit, of-opd, bin, addr, assigns, land, no-more, and-then, returns, enter, alloc1, alloc0, params1, pass1, pass0, free1, free0, FmC, fmOf, WpFn-mono, owns, Is, Boolean, bool-makes, uint-makes, uint-lawful, u8, RefT, now, sliceVal, MutSlice, ShrSlice, Room, finally, slice-vals, mut-slice-tells, shr-slice-tells, shr-slice-copy, plain, owned, nothing, Vals, onEntry, Meets, tripleOf, Contract, Triple, entered, cited, says, Stays, stay-none, stay-none-slice, gave-slice, walkOf, goes-none, goes-none-slice, goes-gave-slice, Walks, ends-at, walked, walk-meets, yes, u32, w32}
+use Rattle.sessions.proofs.Kit.{_≡_, refl, ℕ, Bool, true, false, List, [], _∷_, length, ltb, lit<, URA, fullShare, named, Val, vbool, SProp, ent, sep, emp, via, id⊢, fst∗, Lft, GName, Share, ftrue, flft, Memory, Routine, Heap, Calls, Loops, WpFn, Tables, Atoms, sem, Fun, givenOf, tables, tablesOf, Given, ‵, raw, _⊛_, ⋆, _$_, _∵_, !, qed, by, move, keep, drop, use1, use2, split, join, fsplit, fjoin, suffices, frame, done, whole, sub, look-in, look, init, stop, fld, from, load, lit, true-lit, false-lit, of-opd, bin, assigns, land, no-more, and-then, returns, enter, alloc1, alloc0, params1, pass1, pass0, FmC, fmOf, WpFn-mono, owns, Is, Boolean, bool-makes, uint-makes, uint-lawful, u8, RefT, now, sliceVal, MutSlice, ShrSlice, Room, finally, slice-vals, mut-slice-tells, shr-slice-tells, shr-slice-copy, plain, owned, nothing, Vals, onEntry, Meets, tripleOf, Contract, Triple, entered, cited, says, Stays, stay-none, stay-none-slice, gave-slice, walkOf, goes-none, goes-none-slice, goes-gave-slice, ends-at, walked, walk-meets, yes, u32, w32}
 use denote.Struct.Laws as LL
 use Rattle.session.specs.declared.Session.{Session}
 use Rattle.session.specs.declared.Changed.{Changed}
@@ -15,6 +15,9 @@ use Rattle.session.proofs.Changed.Laws as Ch′
 use Rattle.session.proofs.Adding as Ad
 use Rattle.session.proofs.Adding.Laws as Ad′
 use Rattle.sessions.proofs.Walk.{R, mach, typed, record-owned}
+use Rattle.sessions.proofs.Values.{mach-t, changed-typed}
+use Rattle.sessions.proofs.Leaving.{leaves, holds}
+use Rattle.sessions.proofs.Operands.{local, reborrows}
 use Rattle.sessions.proofs.Said.{calls-said}
 use Rattle.sessions.proofs.Calls.{ref-at, lend, back, Finds, Gets, Puts, calls-find, calls-get, calls-put}
 use Rattle.sessions.proofs.find.Symbol as find-def
@@ -37,9 +40,6 @@ use Rattle.sessions.proofs.add.Code as code
 
 abbrev stayed : Stays (add.ended .signature .params) (add.ended .kept)
 stayed = (gave-slice (0 ∷ []) tt (plain (λ _. R)), (stay-none (λ _. Ad.the-row) yes, (stay-none-slice (1 ∷ []) tt (plain (λ _. u8)) yes, (stay-none-slice (2 ∷ []) tt (plain (λ _. u8)) yes, tt))))
-
-abbrev mach-t : Changed → Val
-mach-t t = LL.val Ch.the-type Ch′.the-laws t
 
 abbrev mach-x : Adding → Val
 mach-x x = LL.val Ad.the-type Ad′.the-laws x
@@ -100,52 +100,43 @@ module _ {M : Type 1} (𝓤 : URA M) (H : Heap 𝓤) (A : Atoms 𝓤) (W : Given
         let id-fits = LL.owed Ad.the-type Ad′.the-laws x _ gx .1 .0 .1 in
         -- the table is lent as `&`: [ν's token; the `&`; what is lent out; …; _22; …]
         lend R (named 0) κ q γ b o ys ! tt (λ ν δ.
-        assigns ! (addr ! (from ! (fld ! refl (hop ! (look-in ! 49 (sub ! 0 refl (whole !))) (stop !))))) (from ! (stop !)) (init ! 29 refl (tt, tt)) $
-        assigns ! (agg ! (and-then ! (load ! (from ! (stop !)) (look ! 29 refl)) (and-then ! (load ! (from ! (fld ! refl (stop !))) (look-in ! 49 (sub ! 1 refl (whole !)))) (no-more !)))) (from ! (stop !)) (init ! 27 refl (tt, (tt, (record { fits = room .0 }, tt)))) $
-        calls-find mem run (ν ∷ []) fullShare b o δ ys ! fm kf true (x .id) id-fits (and-then ! (load ! (from ! (stop !)) (look ! 27 refl)) (and-then ! (true-lit !) (and-then ! (load ! (from ! (fld ! refl (stop !))) (look-in ! 47 (sub ! 1 refl (whole !)))) (no-more !)))) (λ i e gi.
+        reborrows ! refl refl (look-in ! 49 (sub ! 0 refl (whole !))) (init ! 29 refl (tt, tt)) (look ! 29 refl) (look-in ! 49 (sub ! 1 refl (whole !))) (init ! 27 refl (tt, (tt, (record { fits = room .0 }, tt)))) $
+        calls-find mem run (ν ∷ []) fullShare b o δ ys ! fm kf true (x .id) id-fits (and-then ! (local ! 27 refl) (and-then ! (true-lit !) (and-then ! (load ! (from ! (fld ! refl (stop !))) (look-in ! 47 (sub ! 1 refl (whole !)))) (no-more !)))) (λ i e gi.
         land ! (from ! (stop !)) (init ! 41 refl (tt, record { fits = gi })) $
-        assigns ! (addr ! (from ! (fld ! refl (hop ! (look-in ! 49 (sub ! 0 refl (whole !))) (stop !))))) (from ! (stop !)) (init ! 25 refl (tt, tt)) $
-        assigns ! (agg ! (and-then ! (load ! (from ! (stop !)) (look ! 25 refl)) (and-then ! (load ! (from ! (fld ! refl (stop !))) (look-in ! 49 (sub ! 1 refl (whole !)))) (no-more !)))) (from ! (stop !)) (init ! 23 refl (tt, (tt, (record { fits = room .0 }, tt)))) $
-        calls-get mem run (ν ∷ []) fullShare b o δ ys ! fm kg i gi (and-then ! (load ! (from ! (stop !)) (look ! 23 refl)) (and-then ! (load ! (from ! (stop !)) (look ! 41 refl)) (no-more !))) (λ there e′ gt.
+        reborrows ! refl refl (look-in ! 49 (sub ! 0 refl (whole !))) (init ! 25 refl (tt, tt)) (look ! 25 refl) (look-in ! 49 (sub ! 1 refl (whole !))) (init ! 23 refl (tt, (tt, (record { fits = room .0 }, tt)))) $
+        calls-get mem run (ν ∷ []) fullShare b o δ ys ! fm kg i gi (and-then ! (local ! 23 refl) (and-then ! (local ! 41 refl) (no-more !))) (λ there e′ gt.
         land ! (from ! (stop !)) (init ! 39 refl (typed 𝓤 H A W there (mach there) gt)) $
-        assigns ! (addr ! (from ! (fld ! refl (hop ! (look-in ! 49 (sub ! 0 refl (whole !))) (stop !))))) (from ! (stop !)) (init ! 21 refl (tt, tt)) $
-        assigns ! (agg ! (and-then ! (load ! (from ! (stop !)) (look ! 21 refl)) (and-then ! (load ! (from ! (fld ! refl (stop !))) (look-in ! 49 (sub ! 1 refl (whole !)))) (no-more !)))) (from ! (stop !)) (init ! 19 refl (tt, (tt, (record { fits = room .0 }, tt)))) $
-        calls-find mem run (ν ∷ []) fullShare b o δ ys ! fm kf false 0 (lit< tt) (and-then ! (load ! (from ! (stop !)) (look ! 19 refl)) (and-then ! (false-lit !) (and-then ! (lit ! tt) (no-more !)))) (λ f ef gf.
+        reborrows ! refl refl (look-in ! 49 (sub ! 0 refl (whole !))) (init ! 21 refl (tt, tt)) (look ! 21 refl) (look-in ! 49 (sub ! 1 refl (whole !))) (init ! 19 refl (tt, (tt, (record { fits = room .0 }, tt)))) $
+        calls-find mem run (ν ∷ []) fullShare b o δ ys ! fm kf false 0 (lit< tt) (and-then ! (local ! 19 refl) (and-then ! (false-lit !) (and-then ! (lit ! tt) (no-more !)))) (λ f ef gf.
         land ! (from ! (stop !)) (init ! 37 refl (tt, record { fits = gf })) $
-        assigns ! (addr ! (from ! (fld ! refl (hop ! (look-in ! 49 (sub ! 0 refl (whole !))) (stop !))))) (from ! (stop !)) (init ! 17 refl (tt, tt)) $
-        assigns ! (agg ! (and-then ! (load ! (from ! (stop !)) (look ! 17 refl)) (and-then ! (load ! (from ! (fld ! refl (stop !))) (look-in ! 49 (sub ! 1 refl (whole !)))) (no-more !)))) (from ! (stop !)) (init ! 15 refl (tt, (tt, (record { fits = room .0 }, tt)))) $
-        calls-get mem run (ν ∷ []) fullShare b o δ ys ! fm kg f gf (and-then ! (load ! (from ! (stop !)) (look ! 15 refl)) (and-then ! (load ! (from ! (stop !)) (look ! 37 refl)) (no-more !))) (λ old eo go.
+        reborrows ! refl refl (look-in ! 49 (sub ! 0 refl (whole !))) (init ! 17 refl (tt, tt)) (look ! 17 refl) (look-in ! 49 (sub ! 1 refl (whole !))) (init ! 15 refl (tt, (tt, (record { fits = room .0 }, tt)))) $
+        calls-get mem run (ν ∷ []) fullShare b o δ ys ! fm kg f gf (and-then ! (local ! 15 refl) (and-then ! (local ! 37 refl) (no-more !))) (λ old eo go.
         land ! (from ! (stop !)) (init ! 35 refl (typed 𝓤 H A W old (mach old) go)) $
         -- it is back: [the table; its token; the tokens of chain and material; chain; material; _22; …]
         back R (named 0) κ q γ b o ys ! tt ν δ room $
         assigns ! (of-opd ! (load ! (from ! (fld ! refl (stop !))) (look-in ! 48 (sub ! 1 refl (whole !))))) (from ! (stop !)) (init ! 12 refl (tt, record { fits = room .0 })) $
-        assigns ! (bin ! (load ! (from ! (stop !)) (look ! 36 refl)) (load ! (from ! (stop !)) (look ! 12 refl)) tt) (from ! (stop !)) (init ! 32 refl (tt, tt)) $
+        assigns ! (bin ! (local ! 36 refl) (local ! 12 refl) tt) (from ! (stop !)) (init ! 32 refl (tt, tt)) $
         -- `add_record` has a copy of each slice: from [the table; its token; the tokens of chain and material; chain; material; _22; …]
         move ! (5 ∷ []) $ use1 W (‵ (ShrSlice (named 1) μ₁ u8 .own (ref-at b₁ o₁ γ₁ ms) (sliceVal (b₁, o₁) (length ms) ∷ [])) ⊛ ‵ (ShrSlice (named 1) μ₁ u8 .own (ref-at b₁ o₁ γ₁ ms) (sliceVal (b₁, o₁) (length ms) ∷ []))) (shr-slice-copy 𝓤 H A W (named 1) μ₁ u8 .twice (ref-at b₁ o₁ γ₁ ms) _) $ split ! $ move ! (6 ∷ []) $ use1 W (‵ (ShrSlice (named 2) μ₂ u8 .own (ref-at b₂ o₂ γ₂ cs) (sliceVal (b₂, o₂) (length cs) ∷ [])) ⊛ ‵ (ShrSlice (named 2) μ₂ u8 .own (ref-at b₂ o₂ γ₂ cs) (sliceVal (b₂, o₂) (length cs) ∷ []))) (shr-slice-copy 𝓤 H A W (named 2) μ₂ u8 .twice (ref-at b₂ o₂ γ₂ cs) _) $ split ! $
         move ! (7 ∷ 6 ∷ []) $ join ! $ move ! (3 ∷ 1 ∷ 0 ∷ 4 ∷ 2 ∷ []) $ join ! $ use2 W (raw (Adds 𝓤 H A mem run .pre (to-add 𝓤 H A mem run μ₁ μ₂ p₁ p₂ b₁ o₁ b₂ o₂ γ₁ γ₂ ms cs x there old (ltb f (length ys))))) (asks-add 𝓤 H A mem run μ₁ μ₂ p₁ p₂ b₁ o₁ b₂ o₂ γ₁ γ₂ ms cs x there old (ltb f (length ys)) W gx gt go) $
-        calls-said add-record.ended (add-record.clauses 𝓤 H A mem run) ! fm ka (to-add 𝓤 H A mem run μ₁ μ₂ p₁ p₂ b₁ o₁ b₂ o₂ γ₁ γ₂ ms cs x there old (ltb f (length ys))) (λ t ws. AddsWith (addingOf x cs ms) (there .used) (ltb f (length ys)) (sessionOf old) (t .number) (sessionOf (t .session))) (λ t ws. id⊢ 𝓤 _) mach-t (LL.tells Ch.the-type Ch′.the-laws) (and-then ! (load ! (from ! (stop !)) (look ! 45 refl)) (and-then ! (load ! (from ! (stop !)) (look ! 37 refl)) (and-then ! (load ! (from ! (stop !)) (look ! 33 refl)) (and-then ! (load ! (from ! (stop !)) (look ! 31 refl)) (and-then ! (load ! (from ! (stop !)) (look ! 43 refl)) (and-then ! (load ! (from ! (stop !)) (look ! 41 refl)) (no-more !))))))) (λ t ws et gc.
+        calls-said add-record.ended (add-record.clauses 𝓤 H A mem run) ! fm ka (to-add 𝓤 H A mem run μ₁ μ₂ p₁ p₂ b₁ o₁ b₂ o₂ γ₁ γ₂ ms cs x there old (ltb f (length ys))) (λ t ws. AddsWith (addingOf x cs ms) (there .used) (ltb f (length ys)) (sessionOf old) (t .number) (sessionOf (t .session))) (λ t ws. id⊢ 𝓤 _) mach-t (LL.tells Ch.the-type Ch′.the-laws) (and-then ! (local ! 45 refl) (and-then ! (local ! 37 refl) (and-then ! (local ! 33 refl) (and-then ! (local ! 31 refl) (and-then ! (local ! 43 refl) (and-then ! (local ! 41 refl) (no-more !))))))) (λ t ws et gc.
         use1 W (‵ (flft μ₁ p₁) ⊛ (‵ (flft μ₂ p₂) ⊛ ‵ ftrue)) (id⊢ 𝓤 _) $ split ! $ move ! (1 ∷ []) $ split ! $ move ! (1 ∷ 3 ∷ []) $ drop ! $ drop ! $ move ! (1 ∷ 0 ∷ []) $
-        land ! (from ! (stop !)) (init ! 30 refl (LL.lawful Ch.the-type Ch′.the-laws 𝓤 H A W .typed t _ gc .0)) $
-        assigns ! (addr ! (from ! (fld ! refl (hop ! (look-in ! 48 (sub ! 0 refl (whole !))) (stop !))))) (from ! (stop !)) (init ! 8 refl (tt, tt)) $
-        assigns ! (agg ! (and-then ! (load ! (from ! (stop !)) (look ! 8 refl)) (and-then ! (load ! (from ! (fld ! refl (stop !))) (look-in ! 48 (sub ! 1 refl (whole !)))) (no-more !)))) (from ! (stop !)) (init ! 6 refl (tt, (tt, (record { fits = room .0 }, tt)))) $
+        land ! (from ! (stop !)) (init ! 30 refl (changed-typed W t gc)) $
+        reborrows ! refl refl (look-in ! 48 (sub ! 0 refl (whole !))) (init ! 8 refl (tt, tt)) (look ! 8 refl) (look-in ! 48 (sub ! 1 refl (whole !))) (init ! 6 refl (tt, (tt, (record { fits = room .0 }, tt)))) $
         let parts = LL.owed Ch.the-type Ch′.the-laws t _ gc in
-        move ! (5 ∷ 4 ∷ []) $ calls-put mem run κ q b o γ ys ! fm kp f (t .session) gf (parts .1 .0) (and-then ! (load ! (from ! (stop !)) (look ! 5 refl)) (and-then ! (load ! (from ! (stop !)) (look ! 35 refl)) (and-then ! (load ! (from ! (fld ! refl (stop !))) (look-in ! 29 (sub ! 1 refl (whole !)))) (no-more !)))) (λ zs ez lz.
+        move ! (5 ∷ 4 ∷ []) $ calls-put mem run κ q b o γ ys ! fm kp f (t .session) gf (parts .1 .0) (and-then ! (local ! 5 refl) (and-then ! (local ! 35 refl) (and-then ! (load ! (from ! (fld ! refl (stop !))) (look-in ! 29 (sub ! 1 refl (whole !)))) (no-more !)))) (λ zs ez lz.
         land ! (from ! (stop !)) (init ! 10 refl (tt, tt)) $
         assigns ! (of-opd ! (load ! (from ! (fld ! refl (stop !))) (look-in ! 30 (sub ! 0 refl (whole !))))) (from ! (stop !)) (init ! 50 refl (uint-lawful 𝓤 H A W w32 .typed (t .number) _ (parts .0) .0)) $
-        returns ! (look ! 50 refl) $ forget ! 6 refl $ forget ! 8 refl $ forget ! 10 refl $ forget ! 12 refl $ forget ! 14 refl $ forget ! 16 refl $ forget ! 18 refl $ forget ! 20 refl $ forget ! 22 refl $ forget ! 24 refl $ forget ! 26 refl $ forget ! 28 refl $ forget ! 30 refl $ forget ! 32 refl $ forget ! 34 refl $ forget ! 36 refl $ forget ! 38 refl $ forget ! 40 refl $ forget ! 42 refl $ forget ! 44 refl $ forget ! 46 refl $ forget ! 48 refl $ forget ! 50 refl $
-        move ! (50 ∷ 51 ∷ []) $ free1 ! $ move ! (48 ∷ 49 ∷ []) $ free1 ! $ move ! (46 ∷ 47 ∷ []) $ free1 ! $ move ! (44 ∷ 45 ∷ []) $ free1 ! $ move ! (42 ∷ 43 ∷ []) $ free1 ! $ move ! (40 ∷ 41 ∷ []) $ free1 ! $ move ! (38 ∷ 39 ∷ []) $ free1 ! $ move ! (36 ∷ 37 ∷ []) $ free1 ! $ move ! (34 ∷ 35 ∷ []) $ free1 ! $ move ! (32 ∷ 33 ∷ []) $ free1 ! $ move ! (30 ∷ 31 ∷ []) $ free1 ! $ move ! (28 ∷ 29 ∷ []) $ free1 ! $ move ! (26 ∷ 27 ∷ []) $ free1 ! $ move ! (24 ∷ 25 ∷ []) $ free1 ! $ move ! (22 ∷ 23 ∷ []) $ free1 ! $ move ! (20 ∷ 21 ∷ []) $ free1 ! $ move ! (18 ∷ 19 ∷ []) $ free1 ! $ move ! (16 ∷ 17 ∷ []) $ free1 ! $ move ! (14 ∷ 15 ∷ []) $ free1 ! $ move ! (12 ∷ 13 ∷ []) $ free1 ! $ move ! (10 ∷ 11 ∷ []) $ free1 ! $ move ! (8 ∷ 9 ∷ []) $ free1 ! $ move ! (6 ∷ 7 ∷ []) $ free1 ! $ free0 ! $
+        returns ! (look ! 50 refl) $ leaves ! 6 (holds _ ∷ holds _ ∷ holds _ ∷ holds _ ∷ holds _ ∷ holds _ ∷ holds _ ∷ holds _ ∷ holds _ ∷ holds _ ∷ holds _ ∷ holds _ ∷ holds _ ∷ holds _ ∷ holds _ ∷ holds _ ∷ holds _ ∷ holds _ ∷ holds _ ∷ holds _ ∷ holds _ ∷ holds _ ∷ holds _ ∷ []) refl $
         keep ! (0 ∷ 2 ∷ 3 ∷ 1 ∷ 4 ∷ 5 ∷ []) $ by ! (exits (t .number) _ zs (parts .0) lz (added-says ys zs x ms cs i f there old t e e′ ef eo et ez))))))))))))))))))))))))))))))))
-
-module _ {M : Type 1} (𝓤 : URA M) (H : Heap 𝓤) (A : Atoms 𝓤) (W : Given 𝓤 H A) (mem : Memory → SProp 𝓤) (run : Routine → Fun 𝓤) where
-  add-walks : (C : Calls 𝓤 H) (Λ : Loops 𝓤 H) → FmC 𝓤 H (W .laws) C → Triple 𝓤 (C #sessions·find) (Finds 𝓤 H A mem run) → Triple 𝓤 (C #sessions·at) (Gets 𝓤 H A mem run) → Triple 𝓤 (C #session·add-record) (Adds 𝓤 H A mem run) → Triple 𝓤 (C #sessions·put-at) (Puts 𝓤 H A mem run) → Walks 𝓤 H A add.ended stayed (WpFn 𝓤 H C Λ code.function) (add.clauses 𝓤 H A mem run)
-  add-walks C Λ fm kf kg ka kp = walked 𝓤 H A add.ended stayed (add.clauses 𝓤 H A mem run) (WpFn 𝓤 H C Λ code.function)
-      (λ κs. (slice-vals, (LL.vals Ad.the-type Ad′.the-laws, (slice-vals, (slice-vals, tt))))) (λ κs. (mut-slice-tells (named 0) (κs .0) R, (LL.tells Ad.the-type Ad′.the-laws, (shr-slice-tells (named 1) (κs .1 .0) u8, (shr-slice-tells (named 2) (κs .1 .1 .0) u8, tt)))))
-      (λ κs qs bounds a g are. via 𝓤 _ (fst∗ 𝓤 _ (emp 𝓤)) (walk 𝓤 H A W mem run (κs .0) (κs .1 .0) (κs .1 .1 .0) (qs .0) (qs .1 .0) (qs .1 .1 .0) (a .0 .ptr .0) (a .0 .ptr .1) (a .0 .name) (a .0 .now) (a .1 .0) (a .1 .1 .0 .ptr .0) (a .1 .1 .0 .ptr .1) (a .1 .1 .0 .name) (a .1 .1 .0 .now) (a .1 .1 .1 .0 .ptr .0) (a .1 .1 .1 .0 .ptr .1) (a .1 .1 .1 .0 .name) (a .1 .1 .1 .0 .now) (are .0 .0 .1) (are .1 .0) (are .1 .1 .0 .0 .1) (are .1 .1 .1 .0 .0 .1) C Λ fm kf kg ka kp))
 
 add-meets : {M : Type 1} (𝓤 : URA M) (H : Heap 𝓤) (A : Atoms 𝓤) (W : Given 𝓤 H A) (mem : Memory → SProp 𝓤) (run : Routine → Fun 𝓤) (𝓣 : Tables 𝓤 H) → Triple 𝓤 (𝓣 .C #sessions·find) (Finds 𝓤 H A mem run) → Triple 𝓤 (𝓣 .C #sessions·at) (Gets 𝓤 H A mem run) → Triple 𝓤 (𝓣 .C #session·add-record) (Adds 𝓤 H A mem run) → Triple 𝓤 (𝓣 .C #sessions·put-at) (Puts 𝓤 H A mem run) → Meets 𝓤 H A add.signature (WpFn 𝓤 H (𝓣 .C) (𝓣 .Λ) code.function) (add.spec 𝓤 H A mem run)
 add-meets 𝓤 H A W mem run 𝓣 kf kg ka kp =
     walk-meets 𝓤 H A add.ended stayed W (goes-gave-slice 𝓤 H A W 3 0 tt (plain (λ _. R)), (goes-none 𝓤 H A W 3 (λ _. Ad.the-row) yes (λ κs x f. refl), (goes-none-slice 𝓤 H A W 3 (1 ∷ []) tt (plain (λ _. u8)) yes, (goes-none-slice 𝓤 H A W 3 (2 ∷ []) tt (plain (λ _. u8)) yes, tt)))) (add.clauses 𝓤 H A mem run)
-    (WpFn 𝓤 H (𝓣 .C) (𝓣 .Λ) code.function) (WpFn-mono 𝓤 H (W .laws) 𝓣 code.function) (add-walks 𝓤 H A W mem run (𝓣 .C) (𝓣 .Λ) (fmOf 𝓤 H (W .laws) 𝓣) kf kg ka kp)
+    (WpFn 𝓤 H (𝓣 .C) (𝓣 .Λ) code.function) (WpFn-mono 𝓤 H (W .laws) 𝓣 code.function)
+    (walked 𝓤 H A add.ended stayed (add.clauses 𝓤 H A mem run) (WpFn 𝓤 H (𝓣 .C) (𝓣 .Λ) code.function)
+    (λ κs. (slice-vals, (LL.vals Ad.the-type Ad′.the-laws, (slice-vals, (slice-vals, tt))))) (λ κs. (mut-slice-tells (named 0) (κs .0) R, (LL.tells Ad.the-type Ad′.the-laws, (shr-slice-tells (named 1) (κs .1 .0) u8, (shr-slice-tells (named 2) (κs .1 .1 .0) u8, tt)))))
+    (λ κs qs bounds a g are. via 𝓤 _ (fst∗ 𝓤 _ (emp 𝓤)) (walk 𝓤 H A W mem run (κs .0) (κs .1 .0) (κs .1 .1 .0) (qs .0) (qs .1 .0) (qs .1 .1 .0) (a .0 .ptr .0) (a .0 .ptr .1) (a .0 .name) (a .0 .now) (a .1 .0) (a .1 .1 .0 .ptr .0) (a .1 .1 .0 .ptr .1) (a .1 .1 .0 .name) (a .1 .1 .0 .now) (a .1 .1 .1 .0 .ptr .0) (a .1 .1 .1 .0 .ptr .1) (a .1 .1 .1 .0 .name) (a .1 .1 .1 .0 .now) (are .0 .0 .1) (are .1 .0) (are .1 .1 .0 .0 .1) (are .1 .1 .1 .0 .0 .1) (𝓣 .C) (𝓣 .Λ) (fmOf 𝓤 H (W .laws) 𝓣) kf kg ka kp)))
 
 pub add-spec : {M : Type 1} → stated.statement M
 unfolding code.routine tablesOf

@@ -1,9 +1,14 @@
--- `sessions::at` meets its contract: a walk of its MIR, by hand. Where the place is within the table the record is copied out; past the end `vacant` makes a free one, which is what `getD` says there.
+-- Right because within the table the record is copied out, and past the end `vacant` makes a free one, which is what `getD` says there. A walk of the MIR, by hand.
 -- Assumes nothing.
-use Rattle.sessions.proofs.Kit.{_≡_, refl, sym, _∙_, ℕ, _<_, _^_, _*_, List, [], _∷_, length, getD, ltb→lt, nltb→le, URA, fullShare, named, w64, tyPtr, Val, vint, vptr, SProp, ent, emp, via, id⊢, exE, fst∗, snd∗, Lft, GName, Share, Fml, ftrue, fat, flft, Memory, Routine, Heap, Calls, Loops, WpFn, Tables, Atoms, sem, Fun, fact, givenOf, tables, tablesOf, Given, ‵, raw, some, later, _⊛_, ⋆, atRet, _$_, _∵_, !, qed, by, move, keep, drop, use0, use1, split, join, pick, rewrite, fsplit, fjoin, suffices, frame, await, done, whole, sub, look-in, look, look-raw, init, forget, stop, hop, fld, from, load, lit, of-opd, bin, assigns, assigns-last, first, branches, land-last, no-more, returns, enter, alloc1, alloc0, params1, pass1, pass0, free1, free0, exec, FmC, fmOf, WpFn-mono, owns, Is, shows, uint-makes, uint-vals, uint-tells, usize, RefT, now, sliceVal, ShrSlice, Room, slice-vals, shr-slice-tells, place-is, elem-back, shuts-slice, plain, owned, nothing, heard, facts, calls-at-last, ensured, lasts, Vals, onEntry, Meets, tripleOf, Contract, Triple, entered, cited, says, Stays, stay-none, stay-none-slice, walkOf, goes-none, goes-none-slice, Walks, ends-at, walked, walk-meets, yes}
+use Rattle.sessions.proofs.Kit.{_≡_, refl, sym, _∙_, ℕ, _<_, _^_, _*_, List, [], _∷_, length, getD, ltb→lt, nltb→le, URA, fullShare, named, w64, tyPtr, Val, vint, vptr, SProp, ent, emp, via, id⊢, exE, fst∗, snd∗, Lft, GName, Share, Fml, ftrue, fat, flft, Memory, Routine, Heap, Calls, Loops, WpFn, Tables, Atoms, sem, Fun, fact, givenOf, tables, tablesOf, Given, ‵, raw, some, later, _⊛_, ⋆, atRet, _$_, _∵_, !, qed, by, move, keep, drop, use0, use1, split, join, pick, rewrite, fsplit, fjoin, suffices, frame, await, done, whole, sub, look-in, look, look-raw, init, stop, hop, fld, from, load, lit, of-opd, bin, assigns, assigns-last, first, branches, land-last, no-more, returns, enter, alloc1, alloc0, params1, pass1, pass0, exec, FmC, fmOf, WpFn-mono, owns, Is, shows, uint-makes, uint-vals, uint-tells, usize, RefT, now, sliceVal, ShrSlice, Room, slice-vals, shr-slice-tells, place-is, elem-back, shuts-slice, plain, owned, nothing, heard, facts, calls-at-last, ensured, lasts, Vals, onEntry, Meets, tripleOf, Contract, Triple, entered, cited, says, Stays, stay-none, stay-none-slice, walkOf, goes-none, goes-none-slice, ends-at, walked, walk-meets, yes}
+use mir.Syntax.{imm, tyBool}
+use denote.Slice.{sliceTy}
 use Rattle.session.specs.declared.Session.{Session}
 use Rattle.session.specs.Records.{free}
-use Rattle.sessions.proofs.Walk.{R, mach as mach-of, size, place-fits, get-past, typed, looks-table, record-out, record-owned}
+use Rattle.sessions.proofs.Walk.{R, mach as mach-of, size, place-fits, get-past, word, ref, typed, looks-table, record-out, record-owned}
+use Rattle.sessions.proofs.Leaving.{Locals, leaves, holds}
+use Rattle.sessions.proofs.Operands.{local}
+use Rattle.session.proofs.Session.Laws as T′
 use Rattle.session.proofs.vacant as vacant
 use Rattle.session.proofs.vacant.Symbol as vacant-def
 use Rattle.session.proofs.vacant.Symbol.{name as #session·vacant}
@@ -12,6 +17,9 @@ use Rattle.sessions.proofs.at.Key.{name as #sessions·at}
 use Rattle.sessions.proofs.at as at
 use Rattle.sessions.proofs.at.Statement as stated
 use Rattle.sessions.proofs.at.Code as code
+
+abbrev locals : ℕ → ℕ → ℕ → ℕ → ℕ → ℕ → ℕ → ℕ → ℕ → Locals
+locals l₀ l₁ l₂ l₃ l₄ l₅ l₆ l₇ l₈ = (T′.mir, l₀) ∷ (sliceTy (ref (named 0) imm), l₁) ∷ (word, l₂) ∷ (word, l₃) ∷ (tyBool, l₄) ∷ (T′.mir, l₅) ∷ (word, l₆) ∷ (tyPtr, l₇) ∷ (T′.mir, l₈) ∷ []
 
 abbrev stayed : Stays (at.ended .signature .params) (at.ended .kept)
 stayed = (stay-none-slice (0 ∷ []) tt (plain (λ _. R)) yes, (stay-none (λ _. usize) yes, tt))
@@ -67,13 +75,13 @@ module _ {M : Type 1} (𝓤 : URA M) (H : Heap 𝓤) (A : Atoms 𝓤) (W : Given
         pass1 ! (init ! 14 refl (tt, (tt, (record { fits = room .0 }, tt)))) $ pass1 ! (init ! 12 refl (tt, record { fits = gi })) $ pass0 ! $
         -- [_8; …; _0; …; the token; what table and i own]
         assigns ! (of-opd ! (load ! (from ! (fld ! refl (stop !))) (look-in ! 14 (sub ! 1 refl (whole !))))) (from ! (stop !)) (init ! 10 refl (tt, record { fits = room .0 })) $
-        assigns ! (bin ! (load ! (from ! (stop !)) (look ! 12 refl)) (load ! (from ! (stop !)) (look ! 10 refl)) tt) (from ! (stop !)) (init ! 8 refl (tt, tt)) $
-        first ! $ branches ! (load ! (from ! (stop !)) (look ! 8 refl))
+        assigns ! (bin ! (local ! 12 refl) (local ! 10 refl) tt) (from ! (stop !)) (init ! 8 refl (tt, tt)) $
+        first ! $ branches ! (local ! 8 refl)
         (λ less.
         let l : i < length ys = ltb→lt i (length ys) less in
         let pf : i * size < 2 ^ 64 = place-fits i (length ys) l (room .1) in
-        assigns ! (bin ! (load ! (from ! (stop !)) (look ! 12 refl)) (lit ! tt) (record { fits = pf })) (from ! (stop !)) (init ! 4 refl (tt, record { fits = pf })) $
-        assigns ! (bin ! (load ! (from ! (fld ! refl (stop !))) (look-in ! 14 (sub ! 0 refl (whole !)))) (load ! (from ! (stop !)) (look ! 4 refl)) tt) (from ! (stop !)) (init ! 2 refl (tt, tt)) $
+        assigns ! (bin ! (local ! 12 refl) (lit ! tt) (record { fits = pf })) (from ! (stop !)) (init ! 4 refl (tt, record { fits = pf })) $
+        assigns ! (bin ! (load ! (from ! (fld ! refl (stop !))) (look-in ! 14 (sub ! 0 refl (whole !)))) (local ! 4 refl) tt) (from ! (stop !)) (init ! 2 refl (tt, tt)) $
         rewrite ! 2 (λ (p : ℕ). ‵ (fat fullShare tyPtr l₇ 0 (vptr b p))) (sym (place-is size o i)) refl $
         move ! (19 ∷ []) $ fsplit ! $ fsplit ! $ move ! (1 ∷ []) $ fsplit ! $ move ! (22 ∷ []) $ split ! $ move ! (3 ∷ 0 ∷ []) $
         looks-table ! tt ys b o (λ q′.
@@ -81,12 +89,11 @@ module _ {M : Type 1} (𝓤 : URA M) (H : Heap 𝓤) (A : Atoms 𝓤) (W : Given
         let wt = typed 𝓤 H A W elem mach g in
         -- [table[i]; what it owns; the others; what shuts; the fractured borrow; true; res; table's fact; i's; _8; …]
         assigns ! (of-opd ! (load ! (from ! (hop ! (look ! 11 refl) (stop !))) (look-raw ! 0 refl))) (from ! (stop !)) (init ! 9 refl wt) $
-        assigns-last ! (of-opd ! (load ! (from ! (stop !)) (look ! 9 refl))) (from ! (stop !)) (init ! 15 refl wt) $
-        exec ! C Λ _ code.Mir.t-4 (atRet _ Post) $
+        assigns-last ! (of-opd ! (local ! 9 refl)) (from ! (stop !)) (init ! 15 refl wt) $
+        exec ! C Λ (locals l₀ l₁ l₂ l₃ l₄ l₅ l₆ l₇ l₈) code.Mir.t-4 (atRet (locals l₀ l₁ l₂ l₃ l₄ l₅ l₆ l₇ l₈) Post) $
         elem-back ! R q′ ys i free (mach ∷ []) b o l $ shuts-slice ! tt R q′ ys b o $
-        assigns ! (of-opd ! (load ! (from ! (stop !)) (look ! 12 refl))) (from ! (stop !)) (init ! 22 refl wt) $
-        returns ! (look ! 22 refl) $ forget ! 6 refl $ forget ! 8 refl $ forget ! 10 refl $ forget ! 12 refl $ forget ! 14 refl $ forget ! 16 refl $ forget ! 18 refl $ forget ! 20 refl $ forget ! 22 refl $
-        move ! (22 ∷ 23 ∷ []) $ free1 ! $ move ! (20 ∷ 21 ∷ []) $ free1 ! $ move ! (18 ∷ 19 ∷ []) $ free1 ! $ move ! (16 ∷ 17 ∷ []) $ free1 ! $ move ! (14 ∷ 15 ∷ []) $ free1 ! $ move ! (12 ∷ 13 ∷ []) $ free1 ! $ move ! (10 ∷ 11 ∷ []) $ free1 ! $ move ! (8 ∷ 9 ∷ []) $ free1 ! $ move ! (6 ∷ 7 ∷ []) $ free1 ! $ free0 ! $
+        assigns ! (of-opd ! (local ! 12 refl)) (from ! (stop !)) (init ! 22 refl wt) $
+        returns ! (look ! 22 refl) $ leaves ! 6 (holds _ ∷ holds _ ∷ holds _ ∷ holds _ ∷ holds _ ∷ holds _ ∷ holds _ ∷ holds _ ∷ holds _ ∷ []) refl $
         move ! (3 ∷ 1 ∷ []) $ fjoin ! $ move ! (3 ∷ 0 ∷ []) $ fjoin ! $ move ! (3 ∷ []) $ fsplit ! $ keep ! (3 ∷ 2 ∷ []) $ by ! (exits elem mach g refl))))
         (λ over.
         use0 W (raw (Makes 𝓤 H A mem run .pre to-vacant)) asks-none $
@@ -96,22 +103,18 @@ module _ {M : Type 1} (𝓤 : URA M) (H : Heap 𝓤) (A : Atoms 𝓤) (W : Given
         facts ! R (Is R) (shows 𝓤 H A R) s (u ∷ []) (λ is.
         let wt = typed 𝓤 H A W s u is in
         land-last ! (from ! (stop !)) (init ! 6 refl wt) $
-        exec ! C Λ _ code.Mir.t-4 (atRet _ Post) $
-        assigns ! (of-opd ! (load ! (from ! (stop !)) (look ! 6 refl))) (from ! (stop !)) (init ! 16 refl wt) $
-        returns ! (look ! 16 refl) $ forget ! 6 refl $ forget ! 8 refl $ forget ! 10 refl $ forget ! 12 refl $ forget ! 14 refl $ forget ! 16 refl $
-        move ! (16 ∷ 17 ∷ []) $ free1 ! $ move ! (14 ∷ 15 ∷ []) $ free1 ! $ move ! (12 ∷ 13 ∷ []) $ free1 ! $ move ! (10 ∷ 11 ∷ []) $ free1 ! $ move ! (8 ∷ 9 ∷ []) $ free1 ! $ move ! (6 ∷ 7 ∷ []) $ free1 ! $ move ! (4 ∷ 5 ∷ []) $ free1 ! $ move ! (2 ∷ 3 ∷ []) $ free1 ! $ move ! (0 ∷ 1 ∷ []) $ free1 ! $ free0 ! $
+        exec ! C Λ (locals l₀ l₁ l₂ l₃ l₄ l₅ l₆ l₇ l₈) code.Mir.t-4 (atRet (locals l₀ l₁ l₂ l₃ l₄ l₅ l₆ l₇ l₈) Post) $
+        assigns ! (of-opd ! (local ! 6 refl)) (from ! (stop !)) (init ! 16 refl wt) $
+        returns ! (look ! 16 refl) $ move ! (18 ∷ 19 ∷ []) $ leaves ! 2 (holds _ ∷ holds _ ∷ holds _ ∷ holds _ ∷ holds _ ∷ holds _ ∷ []) refl $
         split ! $ move ! (2 ∷ []) $ fsplit ! $ keep ! (2 ∷ 0 ∷ []) $ by ! (exits s u is (e ∙ get-past ys i (nltb→le i (length ys) over)))))))))))))))))
-
-module _ {M : Type 1} (𝓤 : URA M) (H : Heap 𝓤) (A : Atoms 𝓤) (W : Given 𝓤 H A) (mem : Memory → SProp 𝓤) (run : Routine → Fun 𝓤) where
-  at-walks : (C : Calls 𝓤 H) (Λ : Loops 𝓤 H) → FmC 𝓤 H (W .laws) C → Triple 𝓤 (C #session·vacant) (Makes 𝓤 H A mem run) → Walks 𝓤 H A at.ended stayed (WpFn 𝓤 H C Λ code.function) (at.clauses 𝓤 H A mem run)
-  at-walks C Λ fm known-vacant = walked 𝓤 H A at.ended stayed (at.clauses 𝓤 H A mem run) (WpFn 𝓤 H C Λ code.function)
-      (λ κs. (slice-vals, (uint-vals w64, tt))) (λ κs. (shr-slice-tells (named 0) (κs .0) R, (uint-tells w64, tt)))
-      (λ κs qs bounds a g are. via 𝓤 _ (fst∗ 𝓤 _ (emp 𝓤)) (walk 𝓤 H A W mem run (κs .0) (qs .0) (a .0 .ptr .0) (a .0 .ptr .1) (a .0 .name) (a .0 .now) (a .1 .0) (are .0 .0 .1) (are .1 .0 .1) C Λ fm known-vacant))
 
 at-meets : {M : Type 1} (𝓤 : URA M) (H : Heap 𝓤) (A : Atoms 𝓤) (W : Given 𝓤 H A) (mem : Memory → SProp 𝓤) (run : Routine → Fun 𝓤) (𝓣 : Tables 𝓤 H) → Triple 𝓤 (𝓣 .C #session·vacant) (Makes 𝓤 H A mem run) → Meets 𝓤 H A at.signature (WpFn 𝓤 H (𝓣 .C) (𝓣 .Λ) code.function) (at.spec 𝓤 H A mem run)
 at-meets 𝓤 H A W mem run 𝓣 known-vacant =
     walk-meets 𝓤 H A at.ended stayed W (goes-none-slice 𝓤 H A W 1 (0 ∷ []) tt (plain (λ _. R)) yes, (goes-none 𝓤 H A W 1 (λ _. usize) yes (λ κs x f. refl), tt)) (at.clauses 𝓤 H A mem run)
-    (WpFn 𝓤 H (𝓣 .C) (𝓣 .Λ) code.function) (WpFn-mono 𝓤 H (W .laws) 𝓣 code.function) (at-walks 𝓤 H A W mem run (𝓣 .C) (𝓣 .Λ) (fmOf 𝓤 H (W .laws) 𝓣) known-vacant)
+    (WpFn 𝓤 H (𝓣 .C) (𝓣 .Λ) code.function) (WpFn-mono 𝓤 H (W .laws) 𝓣 code.function)
+    (walked 𝓤 H A at.ended stayed (at.clauses 𝓤 H A mem run) (WpFn 𝓤 H (𝓣 .C) (𝓣 .Λ) code.function)
+    (λ κs. (slice-vals, (uint-vals w64, tt))) (λ κs. (shr-slice-tells (named 0) (κs .0) R, (uint-tells w64, tt)))
+    (λ κs qs bounds a g are. via 𝓤 _ (fst∗ 𝓤 _ (emp 𝓤)) (walk 𝓤 H A W mem run (κs .0) (qs .0) (a .0 .ptr .0) (a .0 .ptr .1) (a .0 .name) (a .0 .now) (a .1 .0) (are .0 .0 .1) (are .1 .0 .1) (𝓣 .C) (𝓣 .Λ) (fmOf 𝓤 H (W .laws) 𝓣) known-vacant)))
 
 pub at-spec : {M : Type 1} → stated.statement M
 unfolding code.routine tablesOf

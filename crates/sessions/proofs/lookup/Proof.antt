@@ -1,6 +1,6 @@
 -- Right because the place that the search finds is the record that lookup takes. A walk of the MIR, by hand: the table is copied to both callees.
 -- Assumes nothing.
-use Rattle.sessions.proofs.Kit.{ !, Atoms, Calls, FmC, Fun, GName, Given, Heap, Is, Lft, List, Loops, Meets, Memory, RefT, Room, Routine, SProp, Share, ShrSlice, Stays, Tables, Triple, URA, Val, Vals, Walks, WpFn, WpFn-mono, [], _$_, _<_, _^_, _∵_, _∷_, _≡_, _⊛_, alloc0, alloc1, and-then, by, cited, done, drop, emp, ends-at, ent, enter, entered, fjoin, flft, fmOf, forget, frame, free0, free1, from, fsplit, fst∗, ftrue, givenOf, goes-none, goes-none-slice, init, join, land, length, load, look, move, named, no-more, nothing, now, onEntry, owned, owns, params1, pass0, pass1, plain, qed, refl, returns, says, shr-slice-tells, slice-vals, sliceVal, split, stay-none, stay-none-slice, stop, suffices, tables, tablesOf, tripleOf, true, true-lit, u64, uint-makes, uint-tells, uint-vals, via, vint, w64, walk-meets, walkOf, walked, yes, ‵, ℕ, ⋆}
+use Rattle.sessions.proofs.Kit.{ !, Atoms, Calls, FmC, Fun, GName, Given, Heap, Is, Lft, List, Loops, Meets, Memory, RefT, Room, Routine, SProp, Share, ShrSlice, Stays, Tables, Triple, URA, Val, Vals, WpFn, WpFn-mono, [], _$_, _<_, _^_, _∵_, _∷_, _≡_, _⊛_, alloc0, alloc1, and-then, by, cited, done, drop, emp, ends-at, ent, enter, entered, fjoin, flft, fmOf, frame, from, fsplit, fst∗, ftrue, givenOf, goes-none, goes-none-slice, init, join, land, length, look, move, named, no-more, nothing, now, onEntry, owned, owns, params1, pass0, pass1, plain, qed, refl, returns, says, shr-slice-tells, slice-vals, sliceVal, split, stay-none, stay-none-slice, stop, suffices, tables, tablesOf, tripleOf, true, true-lit, u64, uint-makes, uint-tells, uint-vals, via, vint, w64, walk-meets, walkOf, walked, yes, ‵, ℕ, ⋆}
 use Rattle.session.specs.declared.Session.{Session}
 use Rattle.session.specs.Records.{sessionOf}
 use Rattle.protocol.specs.SessionTable.{recordOf}
@@ -8,6 +8,8 @@ use Rattle.sessions.specs.Reading.{tableOf}
 use Rattle.sessions.proofs.TableCalls.{taken}
 use Rattle.sessions.proofs.Walk.{R, mach, typed, record-owned}
 use Rattle.sessions.proofs.Calls.{ref-at, Shr, Finds, Gets, calls-find, calls-get}
+use Rattle.sessions.proofs.Leaving.{leaves, holds}
+use Rattle.sessions.proofs.Operands.{local}
 use Rattle.sessions.proofs.find.Symbol as find-def
 use Rattle.sessions.proofs.find.Symbol.{name as #sessions·find}
 use Rattle.sessions.proofs.find.Met as find-thm
@@ -51,24 +53,20 @@ module _ {M : Type 1} (𝓤 : URA M) (H : Heap 𝓤) (A : Atoms 𝓤) (W : Given
         pass1 ! (init ! 4 refl (tt, (tt, (record { fits = room .0 }, tt)))) $ pass1 ! (init ! 2 refl (tt, record { fits = id-fits })) $ pass0 ! $
         -- [_3; …; _0; …; the token; what the parameters own]  to  [the token; the table; _3; …]
         move ! (9 ∷ []) $ fsplit ! $ move ! (1 ∷ []) $ drop ! $ move ! (9 ∷ []) $ split ! $ move ! (1 ∷ []) $ drop ! $
-        calls-find mem run κ q b o γ ys ! fm kf true id id-fits (and-then ! (load ! (from ! (stop !)) (look ! 6 refl)) (and-then ! (true-lit !) (and-then ! (load ! (from ! (stop !)) (look ! 4 refl)) (no-more !)))) (λ i e gi.
+        calls-find mem run κ q b o γ ys ! fm kf true id id-fits (and-then ! (local ! 6 refl) (and-then ! (true-lit !) (and-then ! (local ! 4 refl) (no-more !)))) (λ i e gi.
         land ! (from ! (stop !)) (init ! 2 refl (tt, record { fits = gi })) $
-        calls-get mem run κ q b o γ ys ! fm kg i gi (and-then ! (load ! (from ! (stop !)) (look ! 6 refl)) (and-then ! (load ! (from ! (stop !)) (look ! 2 refl)) (no-more !))) (λ s e′ gs.
+        calls-get mem run κ q b o γ ys ! fm kg i gi (and-then ! (local ! 6 refl) (and-then ! (local ! 2 refl) (no-more !))) (λ s e′ gs.
         land ! (from ! (stop !)) (init ! 8 refl (typed 𝓤 H A W s (mach s) gs)) $
-        returns ! (look ! 8 refl) $ forget ! 2 refl $ forget ! 4 refl $ forget ! 6 refl $ forget ! 8 refl $
-        move ! (8 ∷ 9 ∷ []) $ free1 ! $ move ! (6 ∷ 7 ∷ []) $ free1 ! $ move ! (4 ∷ 5 ∷ []) $ free1 ! $ move ! (2 ∷ 3 ∷ []) $ free1 ! $ free0 ! $
+        returns ! (look ! 8 refl) $ leaves ! 2 (holds _ ∷ holds _ ∷ holds _ ∷ holds _ ∷ []) refl $
         by ! (exits s gs (taken ys id i s e e′))))))))
-
-module _ {M : Type 1} (𝓤 : URA M) (H : Heap 𝓤) (A : Atoms 𝓤) (W : Given 𝓤 H A) (mem : Memory → SProp 𝓤) (run : Routine → Fun 𝓤) where
-  lookup-walks : (C : Calls 𝓤 H) (Λ : Loops 𝓤 H) → FmC 𝓤 H (W .laws) C → Triple 𝓤 (C #sessions·find) (Finds 𝓤 H A mem run) → Triple 𝓤 (C #sessions·at) (Gets 𝓤 H A mem run) → Walks 𝓤 H A lookup.ended stayed (WpFn 𝓤 H C Λ code.function) (lookup.clauses 𝓤 H A mem run)
-  lookup-walks C Λ fm kf kg = walked 𝓤 H A lookup.ended stayed (lookup.clauses 𝓤 H A mem run) (WpFn 𝓤 H C Λ code.function)
-      (λ κs. (slice-vals, (uint-vals w64, tt))) (λ κs. (shr-slice-tells (named 0) (κs .0) R, (uint-tells w64, tt)))
-      (λ κs qs bounds a g are. via 𝓤 _ (fst∗ 𝓤 _ (emp 𝓤)) (walk 𝓤 H A W mem run (κs .0) (qs .0) (a .0 .ptr .0) (a .0 .ptr .1) (a .0 .name) (a .0 .now) (a .1 .0) (are .0 .0 .1) (are .1 .0 .1) C Λ fm kf kg))
 
 lookup-meets : {M : Type 1} (𝓤 : URA M) (H : Heap 𝓤) (A : Atoms 𝓤) (W : Given 𝓤 H A) (mem : Memory → SProp 𝓤) (run : Routine → Fun 𝓤) (𝓣 : Tables 𝓤 H) → Triple 𝓤 (𝓣 .C #sessions·find) (Finds 𝓤 H A mem run) → Triple 𝓤 (𝓣 .C #sessions·at) (Gets 𝓤 H A mem run) → Meets 𝓤 H A lookup.signature (WpFn 𝓤 H (𝓣 .C) (𝓣 .Λ) code.function) (lookup.spec 𝓤 H A mem run)
 lookup-meets 𝓤 H A W mem run 𝓣 kf kg =
     walk-meets 𝓤 H A lookup.ended stayed W (goes-none-slice 𝓤 H A W 1 (0 ∷ []) tt (plain (λ _. R)) yes, (goes-none 𝓤 H A W 1 (λ _. u64) yes (λ κs x f. refl), tt)) (lookup.clauses 𝓤 H A mem run)
-    (WpFn 𝓤 H (𝓣 .C) (𝓣 .Λ) code.function) (WpFn-mono 𝓤 H (W .laws) 𝓣 code.function) (lookup-walks 𝓤 H A W mem run (𝓣 .C) (𝓣 .Λ) (fmOf 𝓤 H (W .laws) 𝓣) kf kg)
+    (WpFn 𝓤 H (𝓣 .C) (𝓣 .Λ) code.function) (WpFn-mono 𝓤 H (W .laws) 𝓣 code.function)
+    (walked 𝓤 H A lookup.ended stayed (lookup.clauses 𝓤 H A mem run) (WpFn 𝓤 H (𝓣 .C) (𝓣 .Λ) code.function)
+    (λ κs. (slice-vals, (uint-vals w64, tt))) (λ κs. (shr-slice-tells (named 0) (κs .0) R, (uint-tells w64, tt)))
+    (λ κs qs bounds a g are. via 𝓤 _ (fst∗ 𝓤 _ (emp 𝓤)) (walk 𝓤 H A W mem run (κs .0) (qs .0) (a .0 .ptr .0) (a .0 .ptr .1) (a .0 .name) (a .0 .now) (a .1 .0) (are .0 .0 .1) (are .1 .0 .1) (𝓣 .C) (𝓣 .Λ) (fmOf 𝓤 H (W .laws) 𝓣) kf kg)))
 
 pub lookup-spec : {M : Type 1} → stated.statement M
 unfolding code.routine tablesOf

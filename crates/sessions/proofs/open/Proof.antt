@@ -1,6 +1,6 @@
--- `sessions::open` meets its contract: a walk of its MIR, by hand. The message is lent as `&` for `session_id`, comes back, and goes to `open_record` for good; the table is a `&`, of which each callee has a copy.
+-- Right because the record that lookup takes for the id that the message names opens it, and the table is a `&`. A walk of the MIR, by hand: the message is lent as `&` for `session_id`, comes back, and goes to `open_record` for good.
 -- Assumes nothing.
-use Rattle.sessions.proofs.Kit.{_≡_, refl, _∙_, ap, ℕ, true, List, [], _∷_, length, getD, URA, fullShare, named, w64, Val, vint, SProp, ent, sep, emp, via, id⊢, fst∗, Lft, GName, Share, ftrue, flft, Memory, Routine, Heap, Calls, Loops, WpFn, Tables, Atoms, sem, Fun, givenOf, tables, tablesOf, Given, ‵, raw, _⊛_, ⋆, _$_, _∵_, !, qed, by, move, keep, drop, use1, use2, split, join, fsplit, fjoin, feqL, suffices, frame, done, whole, sub, look-in, agg, look, init, forget, stop, hop, fld, from, load, true-lit, addr, assigns, land, no-more, and-then, returns, enter, alloc1, alloc0, params1, pass1, pass0, free1, free0, FmC, fmOf, WpFn-mono, owns, Is, uint-tells, u8, RefT, now, sliceVal, MutSlice, ShrSlice, Room, finally, slice-vals, mut-slice-tells, shr-slice-tells, shr-slice-copy, plain, owned, nothing, Vals, onEntry, Meets, tripleOf, Contract, Triple, entered, cited, says, Stays, stay-none, stay-none-slice, gave-slice, walkOf, goes-none, goes-none-slice, goes-gave-slice, Walks, ends-at, walked, walk-meets, yes}
+use Rattle.sessions.proofs.Kit.{_≡_, refl, ℕ, List, [], _∷_, length, URA, fullShare, named, w64, Val, vint, SProp, ent, sep, emp, via, id⊢, fst∗, Lft, GName, Share, ftrue, flft, Memory, Routine, Heap, Calls, Loops, WpFn, Tables, Atoms, sem, Fun, givenOf, tables, tablesOf, Given, ‵, raw, _⊛_, ⋆, _$_, _∵_, !, qed, by, move, keep, drop, use1, use2, split, join, fsplit, fjoin, feqL, suffices, frame, done, whole, sub, look-in, look, init, stop, from, land, no-more, and-then, returns, enter, alloc1, alloc0, params1, pass1, pass0, FmC, fmOf, WpFn-mono, owns, Is, uint-tells, u8, RefT, now, sliceVal, MutSlice, ShrSlice, Room, finally, slice-vals, mut-slice-tells, shr-slice-tells, shr-slice-copy, plain, nothing, Vals, onEntry, Meets, tripleOf, Contract, Triple, entered, cited, says, Stays, stay-none, stay-none-slice, gave-slice, walkOf, goes-none, goes-none-slice, goes-gave-slice, ends-at, walked, walk-meets, yes}
 use denote.Struct.Laws as LL
 use denote.Enum.Laws as EL
 use Rattle.session.specs.declared.Session.{Session}
@@ -17,14 +17,14 @@ use Rattle.session.proofs.Connection.Laws as Cn′
 use Rattle.compound.proofs.Outcome as An
 use Rattle.compound.proofs.Outcome.Laws as An′
 use Rattle.sessions.proofs.Walk.{R, mach, typed, record-owned}
+use Rattle.sessions.proofs.Values.{ConnectionT, OutcomeT, mach-c, mach-a, connection-typed, outcome-typed, connection-owned, outcome-owned}
+use Rattle.sessions.proofs.Leaving.{leaves, holds}
+use Rattle.sessions.proofs.Operands.{local, reborrows}
 use Rattle.sessions.proofs.Said.{calls-said}
-use Rattle.sessions.proofs.Calls.{ref-at, lend, back, Finds, Gets, Shr, calls-find, calls-get}
-use Rattle.sessions.proofs.find.Symbol as find-def
-use Rattle.sessions.proofs.find.Symbol.{name as #sessions·find}
-use Rattle.sessions.proofs.find.Met as find-thm
-use Rattle.sessions.proofs.at.Symbol as at-def
-use Rattle.sessions.proofs.at.Symbol.{name as #sessions·at}
-use Rattle.sessions.proofs.at.Met as at-thm
+use Rattle.sessions.proofs.Calls.{ref-at, lend, back, Looks, Shr, calls-lookup}
+use Rattle.sessions.proofs.lookup.Symbol as lookup-def
+use Rattle.sessions.proofs.lookup.Symbol.{name as #sessions·lookup}
+use Rattle.sessions.proofs.lookup.Met as lookup-thm
 use Rattle.session.proofs.session_id as session-id
 use Rattle.session.proofs.session_id.Symbol as session-id-def
 use Rattle.session.proofs.session_id.Symbol.{name as #session·session-id}
@@ -39,14 +39,7 @@ use Rattle.sessions.proofs.open.Statement as stated
 use Rattle.sessions.proofs.open.Code as code
 
 abbrev stayed : Stays (opening.ended .signature .params) (opening.ended .kept)
-stayed = (stay-none-slice (0 ∷ []) tt (plain (λ _. R)) yes, (stay-none (λ _. Cn.the-row) yes, (gave-slice (1 ∷ []) tt (plain (λ _. u8)), tt)))
-
--- machine values
-abbrev mach-c : Connection → Val
-mach-c c = LL.val Cn.the-type Cn′.the-laws c
-
-abbrev mach-a : Outcome → Val
-mach-a r = EL.val An.the-type An′.the-laws r
+stayed = (stay-none-slice (0 ∷ []) tt (plain (λ _. R)) yes, (stay-none (λ _. ConnectionT) yes, (gave-slice (1 ∷ []) tt (plain (λ _. u8)), tt)))
 
 module _ {M : Type 1} (𝓤 : URA M) (H : Heap 𝓤) (A : Atoms 𝓤) (mem : Memory → SProp 𝓤) (run : Routine → Fun 𝓤) where
   abbrev Ids : Contract 𝓤
@@ -65,13 +58,13 @@ module _ {M : Type 1} (𝓤 : URA M) (H : Heap 𝓤) (A : Atoms 𝓤) (mem : Mem
     abbrev to-open : Session → Connection → Opens .Ghost
     to-open s c = (((μ, tt), (p, tt), tt, (s, (c, (ref-at b o γ ms, tt))), (mach s ∷ [], (mach-c c ∷ [], (sliceVal (b, o) (length ms) ∷ [], tt)))), tt)
 
-    asks-open : Given 𝓤 H A → (s : Session) (c : Connection) → Is R s (mach s ∷ []) → Is Cn.the-row c (mach-c c ∷ []) → ent 𝓤 (sep 𝓤 (A .lft μ p) (sem 𝓤 H A (MutSlice (named 1) μ u8 .own (ref-at b o γ ms) (sliceVal (b, o) (length ms) ∷ [])))) (Opens .pre (to-open s c))
+    asks-open : Given 𝓤 H A → (s : Session) (c : Connection) → Is R s (mach s ∷ []) → Is ConnectionT c (mach-c c ∷ []) → ent 𝓤 (sep 𝓤 (A .lft μ p) (sem 𝓤 H A (MutSlice (named 1) μ u8 .own (ref-at b o γ ms) (sliceVal (b, o) (length ms) ∷ [])))) (Opens .pre (to-open s c))
     asks-open W s c gs gc =
         qed W (‵ (flft μ p) ∷ ‵ (MutSlice (named 1) μ u8 .own (ref-at b o γ ms) (sliceVal (b, o) (length ms) ∷ [])) ∷ []) ∵ nothing ! $ move ! (1 ∷ 0 ∷ []) $ join ! $
-        nothing ! $ move ! (2 ∷ 0 ∷ []) $ fjoin ! $ owned ! Cn.the-row (Is Cn.the-row) (LL.makes Cn.the-type Cn′.the-plain 𝓤 H A) c _ gc $ fjoin ! $ record-owned ! s _ gs $ fjoin ! $ move ! (1 ∷ 0 ∷ []) $ join ! $ frame ! $ done !
+        nothing ! $ move ! (2 ∷ 0 ∷ []) $ fjoin ! $ connection-owned ! c _ gc $ fjoin ! $ record-owned ! s _ gs $ fjoin ! $ move ! (1 ∷ 0 ∷ []) $ join ! $ frame ! $ done !
 
 module _ {M : Type 1} (𝓤 : URA M) (H : Heap 𝓤) (A : Atoms 𝓤) (W : Given 𝓤 H A) (mem : Memory → SProp 𝓤) (run : Routine → Fun 𝓤) (κ μ : Lft) (q p : Share) (b o : ℕ) (γ : GName) (ys : List Session) (c : Connection) (b′ o′ : ℕ) (γ′ : GName) (ms : List ℕ)
-    (room : Room R (length ys)) (gc : Is Cn.the-row c (mach-c c ∷ [])) (room′ : Room u8 (length ms)) where
+    (room : Room R (length ys)) (gc : Is ConnectionT c (mach-c c ∷ [])) (room′ : Room u8 (length ms)) where
   abbrev a : RefT (List Session) × (Connection × (RefT (List ℕ) × Unit {0}))
   a = (ref-at b o γ ys, (c, (ref-at b′ o′ γ′ ms, tt)))
 
@@ -87,59 +80,51 @@ module _ {M : Type 1} (𝓤 : URA M) (H : Heap 𝓤) (A : Atoms 𝓤) (W : Given
   abbrev Post : Val → SProp 𝓤
   Post = walkOf 𝓤 H A opening.ended stayed (opening.clauses 𝓤 H A mem run) .post (((κ, (μ, tt)), (q, (p, tt)), tt, a, vals), tt)
 
-  exits : (r : Outcome) (fs : List ℕ) → Is An.the-row r (mach-a r ∷ []) → length fs ≡ length ms → OpensInTable (connectionOf c) ms fs (tableOf ys) (answerOf r)
+  exits : (r : Outcome) (fs : List ℕ) → Is OutcomeT r (mach-a r ∷ []) → length fs ≡ length ms → OpensInTable (connectionOf c) ms fs (tableOf ys) (answerOf r)
       → ent 𝓤 (⋆ 𝓤 H A (‵ (flft κ q) ∷ ‵ (flft μ p) ∷ ‵ (Shr κ b o γ ys) ∷ ‵ (finally u8 γ′ fs) ∷ [])) (Post (mach-a r))
   exits r fs is lf said =
       qed W (‵ (flft κ q) ∷ ‵ (flft μ p) ∷ ‵ (Shr κ b o γ ys) ∷ ‵ (finally u8 γ′ fs) ∷ []) ∵
       suffices ! _ (ends-at 𝓤 H A opening.ended stayed (opening.clauses 𝓤 H A mem run) W (((κ, (μ, tt)), (q, (p, tt)), tt, a, vals), tt) (mach-a r) r (tt, (tt, (fs, tt))) (tt, (tt, (lf, tt)))) $ says ! said $
       nothing ! $ move ! (2 ∷ 0 ∷ []) $ join ! $ move ! (1 ∷ 0 ∷ []) $ join ! $ frame ! $
-      nothing ! $ move ! (2 ∷ 0 ∷ []) $ fjoin ! $ owned ! Cn.the-row (Is Cn.the-row) (LL.makes Cn.the-type Cn′.the-plain 𝓤 H A) c _ gc $ fjoin ! $ move ! (1 ∷ 0 ∷ []) $ fjoin ! $ frame ! $
-      owned ! An.the-row (Is An.the-row) (EL.makes An.the-type An′.the-plain 𝓤 H A) r _ is $ done !
+      nothing ! $ move ! (2 ∷ 0 ∷ []) $ fjoin ! $ connection-owned ! c _ gc $ fjoin ! $ move ! (1 ∷ 0 ∷ []) $ fjoin ! $ frame ! $
+      outcome-owned ! r _ is $ done !
 
-  module _ (C : Calls 𝓤 H) (Λ : Loops 𝓤 H) (fm : FmC 𝓤 H (W .laws) C) (ki : Triple 𝓤 (C #session·session-id) (Ids 𝓤 H A mem run)) (kf : Triple 𝓤 (C #sessions·find) (Finds 𝓤 H A mem run)) (kg : Triple 𝓤 (C #sessions·at) (Gets 𝓤 H A mem run)) (ko : Triple 𝓤 (C #session·open-record) (Opens 𝓤 H A mem run)) where
+  module _ (C : Calls 𝓤 H) (Λ : Loops 𝓤 H) (fm : FmC 𝓤 H (W .laws) C) (ki : Triple 𝓤 (C #session·session-id) (Ids 𝓤 H A mem run)) (kl : Triple 𝓤 (C #sessions·lookup) (Looks 𝓤 H A mem run)) (ko : Triple 𝓤 (C #session·open-record) (Opens 𝓤 H A mem run)) where
     walk : ent 𝓤 (onEntry 𝓤 H A opening.signature (κ, (μ, tt)) (q, (p, tt)) a vals) (WpFn 𝓤 H C Λ code.function (sl ∷ mach-c c ∷ ml ∷ []) Post)
     walk =
-        qed W ((‵ (flft κ q) ⊛ (‵ (flft μ p) ⊛ ‵ ftrue)) ∷ ‵ (owns (ShrSlice (named 0) κ R ∷ Cn.the-row ∷ MutSlice (named 1) μ u8 ∷ []) a vals) ∷ []) ∵ enter ! C Λ code.function (sl ∷ mach-c c ∷ ml ∷ []) _ $
-        alloc1 ! (λ l₀. alloc1 ! (λ l₁. alloc1 ! (λ l₂. alloc1 ! (λ l₃. alloc1 ! (λ l₄. alloc1 ! (λ l₅. alloc1 ! (λ l₆. alloc1 ! (λ l₇. alloc1 ! (λ l₈. alloc1 ! (λ l₉. alloc1 ! (λ l₁₀. alloc0 ! $ params1 ! $
-        pass1 ! (init ! 18 refl (tt, (tt, (record { fits = room .0 }, tt)))) $ pass1 ! (init ! 16 refl (LL.lawful Cn.the-type Cn′.the-laws 𝓤 H A W .typed c _ gc .0)) $ pass1 ! (init ! 14 refl (tt, (tt, (record { fits = room′ .0 }, tt)))) $ pass0 ! $
-        -- [_10; …; _0; …; the tokens; what the parameters own]  to  [the message; its token; the table's token; the table; _10; …]
-        move ! (23 ∷ []) $ fsplit ! $ move ! (1 ∷ []) $ fsplit ! $ drop ! $ fsplit ! $ move ! (1 ∷ []) $ drop ! $
-        move ! (24 ∷ []) $ split ! $ move ! (1 ∷ []) $ split ! $ move ! (1 ∷ []) $ drop ! $ move ! (2 ∷ 0 ∷ []) $
-        -- the message is lent as `&`: [ν's token; the `&`; what is lent out; the table's token; the table; _10; …]
+        qed W ((‵ (flft κ q) ⊛ (‵ (flft μ p) ⊛ ‵ ftrue)) ∷ ‵ (owns (ShrSlice (named 0) κ R ∷ ConnectionT ∷ MutSlice (named 1) μ u8 ∷ []) a vals) ∷ []) ∵ enter ! C Λ code.function (sl ∷ mach-c c ∷ ml ∷ []) _ $
+        alloc1 ! (λ l₀. alloc1 ! (λ l₁. alloc1 ! (λ l₂. alloc1 ! (λ l₃. alloc1 ! (λ l₄. alloc1 ! (λ l₅. alloc1 ! (λ l₆. alloc1 ! (λ l₇. alloc1 ! (λ l₈. alloc1 ! (λ l₉. alloc0 ! $ params1 ! $
+        pass1 ! (init ! 16 refl (tt, (tt, (record { fits = room .0 }, tt)))) $ pass1 ! (init ! 14 refl (connection-typed W c gc)) $ pass1 ! (init ! 12 refl (tt, (tt, (record { fits = room′ .0 }, tt)))) $ pass0 ! $
+        -- [_9; …; _0; …; the tokens; what the parameters own]  to  [the message; its token; the table's token; the table; _9; …]
+        move ! (21 ∷ []) $ fsplit ! $ move ! (1 ∷ []) $ fsplit ! $ drop ! $ fsplit ! $ move ! (1 ∷ []) $ drop ! $
+        move ! (22 ∷ []) $ split ! $ move ! (1 ∷ []) $ split ! $ move ! (1 ∷ []) $ drop ! $ move ! (2 ∷ 0 ∷ []) $
+        -- the message is lent as `&`: [ν's token; the `&`; what is lent out; the table's token; the table; _9; …]
         lend u8 (named 1) μ p γ′ b′ o′ ms ! tt (λ ν δ.
-        assigns ! (addr ! (from ! (fld ! refl (hop ! (look-in ! 19 (sub ! 0 refl (whole !))) (stop !))))) (from ! (stop !)) (init ! 11 refl (tt, tt)) $
-        assigns ! (agg ! (and-then ! (load ! (from ! (stop !)) (look ! 11 refl)) (and-then ! (load ! (from ! (fld ! refl (stop !))) (look-in ! 19 (sub ! 1 refl (whole !)))) (no-more !)))) (from ! (stop !)) (init ! 9 refl (tt, (tt, (record { fits = room′ .0 }, tt)))) $
+        reborrows ! refl refl (look-in ! 17 (sub ! 0 refl (whole !))) (init ! 11 refl (tt, tt)) (look ! 11 refl) (look-in ! 17 (sub ! 1 refl (whole !))) (init ! 9 refl (tt, (tt, (record { fits = room′ .0 }, tt)))) $
         move ! (1 ∷ []) $ use1 W (‵ (ShrSlice (named 0) (ν ∷ []) u8 .own (ref-at b′ o′ δ ms) (ml ∷ [])) ⊛ ‵ (ShrSlice (named 0) (ν ∷ []) u8 .own (ref-at b′ o′ δ ms) (ml ∷ []))) (shr-slice-copy 𝓤 H A W (named 0) (ν ∷ []) u8 .twice (ref-at b′ o′ δ ms) _) $ split ! $ move ! (2 ∷ 0 ∷ []) $ use2 W (raw (Ids 𝓤 H A mem run .pre (to-id 𝓤 H A mem run (ν ∷ []) fullShare b′ o′ δ ms))) (asks-id 𝓤 H A mem run (ν ∷ []) fullShare b′ o′ δ ms W) $
-        calls-said session-id.ended (session-id.clauses 𝓤 H A mem run) ! fm ki (to-id 𝓤 H A mem run (ν ∷ []) fullShare b′ o′ δ ms) (λ r ws. r ≡ namedId ms) (λ r ws. id⊢ 𝓤 _) (vint w64) (uint-tells w64) (and-then ! (load ! (from ! (stop !)) (look ! 9 refl)) (no-more !)) (λ id ws e₀ gi₀.
+        calls-said session-id.ended (session-id.clauses 𝓤 H A mem run) ! fm ki (to-id 𝓤 H A mem run (ν ∷ []) fullShare b′ o′ δ ms) (λ r ws. r ≡ namedId ms) (λ r ws. id⊢ 𝓤 _) (vint w64) (uint-tells w64) (and-then ! (local ! 9 refl) (no-more !)) (λ id ws e₀ gi₀.
         let gid = gi₀ .1 in
         use1 W (‵ (flft (ν ∷ []) fullShare) ⊛ ‵ ftrue) (id⊢ 𝓤 _) $ split ! $ move ! (1 ∷ 2 ∷ []) $ drop ! $ drop ! $
-        land ! (from ! (stop !)) (init ! 17 refl (tt, record { fits = gid })) $
+        land ! (from ! (stop !)) (init ! 15 refl (tt, record { fits = gid })) $
         back u8 (named 1) μ p γ′ b′ o′ ms ! tt ν δ room′ $ move ! (2 ∷ 3 ∷ []) $
-        -- [the table's token; the table; the message; its token; _10; …]
-        calls-find mem run κ q b o γ ys ! fm kf true id gid (and-then ! (load ! (from ! (stop !)) (look ! 22 refl)) (and-then ! (true-lit !) (and-then ! (load ! (from ! (stop !)) (look ! 16 refl)) (no-more !)))) (λ i e gi.
-        land ! (from ! (stop !)) (init ! 14 refl (tt, record { fits = gi })) $
-        calls-get mem run κ q b o γ ys ! fm kg i gi (and-then ! (load ! (from ! (stop !)) (look ! 22 refl)) (and-then ! (load ! (from ! (stop !)) (look ! 14 refl)) (no-more !))) (λ s e′ gs.
+        -- [the table's token; the table; the message; its token; _9; …]
+        calls-lookup mem run κ q b o γ ys ! fm kl id gid (and-then ! (local ! 20 refl) (and-then ! (local ! 14 refl) (no-more !))) (λ s e gs.
         land ! (from ! (stop !)) (init ! 12 refl (typed 𝓤 H A W s (mach s) gs)) $
-        assigns ! (addr ! (from ! (fld ! refl (hop ! (look-in ! 18 (sub ! 0 refl (whole !))) (stop !))))) (from ! (stop !)) (init ! 6 refl (tt, tt)) $
-        assigns ! (agg ! (and-then ! (load ! (from ! (stop !)) (look ! 6 refl)) (and-then ! (load ! (from ! (fld ! refl (stop !))) (look-in ! 18 (sub ! 1 refl (whole !)))) (no-more !)))) (from ! (stop !)) (init ! 4 refl (tt, (tt, (record { fits = room′ .0 }, tt)))) $
+        reborrows ! refl refl (look-in ! 16 (sub ! 0 refl (whole !))) (init ! 6 refl (tt, tt)) (look ! 6 refl) (look-in ! 16 (sub ! 1 refl (whole !))) (init ! 4 refl (tt, (tt, (record { fits = room′ .0 }, tt)))) $
         move ! (3 ∷ 2 ∷ []) $ use2 W (raw (Opens 𝓤 H A mem run .pre (to-open 𝓤 H A mem run μ p b′ o′ γ′ ms s c))) (asks-open 𝓤 H A mem run μ p b′ o′ γ′ ms W s c gs gc) $
-        calls-said open-record.ended (open-record.clauses 𝓤 H A mem run) ! fm ko (to-open 𝓤 H A mem run μ p b′ o′ γ′ ms s c) (λ r ws. OpensWith (sessionOf s) (connectionOf c) ms (ws .1 .1 .0) (answerOf r)) (λ r ws. id⊢ 𝓤 _) mach-a (EL.tells An.the-type An′.the-laws) (and-then ! (load ! (from ! (stop !)) (look ! 11 refl)) (and-then ! (load ! (from ! (stop !)) (look ! 19 refl)) (and-then ! (load ! (from ! (stop !)) (look ! 3 refl)) (no-more !)))) (λ r ws said gr.
+        calls-said open-record.ended (open-record.clauses 𝓤 H A mem run) ! fm ko (to-open 𝓤 H A mem run μ p b′ o′ γ′ ms s c) (λ r ws. OpensWith (sessionOf s) (connectionOf c) ms (ws .1 .1 .0) (answerOf r)) (λ r ws. id⊢ 𝓤 _) mach-a (EL.tells An.the-type An′.the-laws) (and-then ! (local ! 11 refl) (and-then ! (local ! 17 refl) (and-then ! (local ! 3 refl) (no-more !)))) (λ r ws said gr.
         use1 W (‵ (flft μ p) ⊛ ‵ ftrue) (id⊢ 𝓤 _) $ split ! $ move ! (1 ∷ []) $ drop ! $ move ! (1 ∷ []) $ fsplit ! $ drop ! $ fsplit ! $ drop ! $ fsplit ! $ fsplit ! $ move ! (1 ∷ []) $ feqL ! (λ lf. move ! (1 ∷ []) $ drop ! $ move ! (1 ∷ 0 ∷ []) $
-        land ! (from ! (stop !)) (init ! 24 refl (EL.lawful An.the-type An′.the-laws 𝓤 H A W tt .typed r _ gr .0)) $
-        returns ! (look ! 24 refl) $ forget ! 4 refl $ forget ! 6 refl $ forget ! 8 refl $ forget ! 10 refl $ forget ! 12 refl $ forget ! 14 refl $ forget ! 16 refl $ forget ! 18 refl $ forget ! 20 refl $ forget ! 22 refl $ forget ! 24 refl $
-        move ! (24 ∷ 25 ∷ []) $ free1 ! $ move ! (22 ∷ 23 ∷ []) $ free1 ! $ move ! (20 ∷ 21 ∷ []) $ free1 ! $ move ! (18 ∷ 19 ∷ []) $ free1 ! $ move ! (16 ∷ 17 ∷ []) $ free1 ! $ move ! (14 ∷ 15 ∷ []) $ free1 ! $ move ! (12 ∷ 13 ∷ []) $ free1 ! $ move ! (10 ∷ 11 ∷ []) $ free1 ! $ move ! (8 ∷ 9 ∷ []) $ free1 ! $ move ! (6 ∷ 7 ∷ []) $ free1 ! $ move ! (4 ∷ 5 ∷ []) $ free1 ! $ free0 ! $
-        keep ! (2 ∷ 0 ∷ 3 ∷ 1 ∷ []) $ by ! (exits r (ws .1 .1 .0) gr lf (opened-says (connectionOf c) ms ys id i (ws .1 .1 .0) s (answerOf r) e₀ e e′ said)))))))))))))))))))
+        land ! (from ! (stop !)) (init ! 22 refl (outcome-typed W r gr)) $
+        returns ! (look ! 22 refl) $ leaves ! 4 (holds _ ∷ holds _ ∷ holds _ ∷ holds _ ∷ holds _ ∷ holds _ ∷ holds _ ∷ holds _ ∷ holds _ ∷ holds _ ∷ []) refl $
+        keep ! (2 ∷ 0 ∷ 3 ∷ 1 ∷ []) $ by ! (exits r (ws .1 .1 .0) gr lf (opened-says (connectionOf c) ms (tableOf ys) id (ws .1 .1 .0) (sessionOf s) (answerOf r) e₀ e said)))))))))))))))))
 
-module _ {M : Type 1} (𝓤 : URA M) (H : Heap 𝓤) (A : Atoms 𝓤) (W : Given 𝓤 H A) (mem : Memory → SProp 𝓤) (run : Routine → Fun 𝓤) where
-  open-walks : (C : Calls 𝓤 H) (Λ : Loops 𝓤 H) → FmC 𝓤 H (W .laws) C → Triple 𝓤 (C #session·session-id) (Ids 𝓤 H A mem run) → Triple 𝓤 (C #sessions·find) (Finds 𝓤 H A mem run) → Triple 𝓤 (C #sessions·at) (Gets 𝓤 H A mem run) → Triple 𝓤 (C #session·open-record) (Opens 𝓤 H A mem run) → Walks 𝓤 H A opening.ended stayed (WpFn 𝓤 H C Λ code.function) (opening.clauses 𝓤 H A mem run)
-  open-walks C Λ fm ki kf kg ko = walked 𝓤 H A opening.ended stayed (opening.clauses 𝓤 H A mem run) (WpFn 𝓤 H C Λ code.function)
-      (λ κs. (slice-vals, (LL.vals Cn.the-type Cn′.the-laws, (slice-vals, tt)))) (λ κs. (shr-slice-tells (named 0) (κs .0) R, (LL.tells Cn.the-type Cn′.the-laws, (mut-slice-tells (named 1) (κs .1 .0) u8, tt))))
-      (λ κs qs bounds a g are. via 𝓤 _ (fst∗ 𝓤 _ (emp 𝓤)) (walk 𝓤 H A W mem run (κs .0) (κs .1 .0) (qs .0) (qs .1 .0) (a .0 .ptr .0) (a .0 .ptr .1) (a .0 .name) (a .0 .now) (a .1 .0) (a .1 .1 .0 .ptr .0) (a .1 .1 .0 .ptr .1) (a .1 .1 .0 .name) (a .1 .1 .0 .now) (are .0 .0 .1) (are .1 .0) (are .1 .1 .0 .0 .1) C Λ fm ki kf kg ko))
-
-open-meets : {M : Type 1} (𝓤 : URA M) (H : Heap 𝓤) (A : Atoms 𝓤) (W : Given 𝓤 H A) (mem : Memory → SProp 𝓤) (run : Routine → Fun 𝓤) (𝓣 : Tables 𝓤 H) → Triple 𝓤 (𝓣 .C #session·session-id) (Ids 𝓤 H A mem run) → Triple 𝓤 (𝓣 .C #sessions·find) (Finds 𝓤 H A mem run) → Triple 𝓤 (𝓣 .C #sessions·at) (Gets 𝓤 H A mem run) → Triple 𝓤 (𝓣 .C #session·open-record) (Opens 𝓤 H A mem run) → Meets 𝓤 H A opening.signature (WpFn 𝓤 H (𝓣 .C) (𝓣 .Λ) code.function) (opening.spec 𝓤 H A mem run)
-open-meets 𝓤 H A W mem run 𝓣 ki kf kg ko =
-    walk-meets 𝓤 H A opening.ended stayed W (goes-none-slice 𝓤 H A W 2 (0 ∷ []) tt (plain (λ _. R)) yes, (goes-none 𝓤 H A W 2 (λ _. Cn.the-row) yes (λ κs x f. refl), (goes-gave-slice 𝓤 H A W 2 1 tt (plain (λ _. u8)), tt))) (opening.clauses 𝓤 H A mem run)
-    (WpFn 𝓤 H (𝓣 .C) (𝓣 .Λ) code.function) (WpFn-mono 𝓤 H (W .laws) 𝓣 code.function) (open-walks 𝓤 H A W mem run (𝓣 .C) (𝓣 .Λ) (fmOf 𝓤 H (W .laws) 𝓣) ki kf kg ko)
+open-meets : {M : Type 1} (𝓤 : URA M) (H : Heap 𝓤) (A : Atoms 𝓤) (W : Given 𝓤 H A) (mem : Memory → SProp 𝓤) (run : Routine → Fun 𝓤) (𝓣 : Tables 𝓤 H) → Triple 𝓤 (𝓣 .C #session·session-id) (Ids 𝓤 H A mem run) → Triple 𝓤 (𝓣 .C #sessions·lookup) (Looks 𝓤 H A mem run) → Triple 𝓤 (𝓣 .C #session·open-record) (Opens 𝓤 H A mem run) → Meets 𝓤 H A opening.signature (WpFn 𝓤 H (𝓣 .C) (𝓣 .Λ) code.function) (opening.spec 𝓤 H A mem run)
+open-meets 𝓤 H A W mem run 𝓣 ki kl ko =
+    walk-meets 𝓤 H A opening.ended stayed W (goes-none-slice 𝓤 H A W 2 (0 ∷ []) tt (plain (λ _. R)) yes, (goes-none 𝓤 H A W 2 (λ _. ConnectionT) yes (λ κs x f. refl), (goes-gave-slice 𝓤 H A W 2 1 tt (plain (λ _. u8)), tt))) (opening.clauses 𝓤 H A mem run)
+    (WpFn 𝓤 H (𝓣 .C) (𝓣 .Λ) code.function) (WpFn-mono 𝓤 H (W .laws) 𝓣 code.function)
+    (walked 𝓤 H A opening.ended stayed (opening.clauses 𝓤 H A mem run) (WpFn 𝓤 H (𝓣 .C) (𝓣 .Λ) code.function)
+    (λ κs. (slice-vals, (LL.vals Cn.the-type Cn′.the-laws, (slice-vals, tt)))) (λ κs. (shr-slice-tells (named 0) (κs .0) R, (LL.tells Cn.the-type Cn′.the-laws, (mut-slice-tells (named 1) (κs .1 .0) u8, tt))))
+    (λ κs qs bounds a g are. via 𝓤 _ (fst∗ 𝓤 _ (emp 𝓤)) (walk 𝓤 H A W mem run (κs .0) (κs .1 .0) (qs .0) (qs .1 .0) (a .0 .ptr .0) (a .0 .ptr .1) (a .0 .name) (a .0 .now) (a .1 .0) (a .1 .1 .0 .ptr .0) (a .1 .1 .0 .ptr .1) (a .1 .1 .0 .name) (a .1 .1 .0 .now) (are .0 .0 .1) (are .1 .0) (are .1 .1 .0 .0 .1) (𝓣 .C) (𝓣 .Λ) (fmOf 𝓤 H (W .laws) 𝓣) ki kl ko)))
 
 pub open-spec : {M : Type 1} → stated.statement M
 unfolding code.routine tablesOf
@@ -148,6 +133,5 @@ open-spec 𝓤 H 𝓜 𝓖 𝓡 =
     (tables 𝓤 H 𝓜 𝓡 code.env .C) (tables 𝓤 H 𝓜 𝓡 code.env .Λ) #sessions·open code.function (code.unfolded 𝓤 H 𝓜 𝓡)
     (open-meets 𝓤 H (𝓖 .A) (givenOf 𝓤 H 𝓜 𝓖) (𝓜 .mem) (𝓡 .run) (tablesOf 𝓤 H 𝓜 (tables 𝓤 H 𝓜 𝓡 code.env))
     (cited 𝓤 H (Ids 𝓤 H (𝓖 .A) (𝓜 .mem) (𝓡 .run)) 𝓜 𝓡 code.env #session·session-id session-id-def.routine code.calls-session·session-id (session-id-thm.met 𝓤 H 𝓜 𝓖 𝓡))
-    (cited 𝓤 H (Finds 𝓤 H (𝓖 .A) (𝓜 .mem) (𝓡 .run)) 𝓜 𝓡 code.env #sessions·find find-def.routine code.calls-sessions·find (find-thm.met 𝓤 H 𝓜 𝓖 𝓡))
-    (cited 𝓤 H (Gets 𝓤 H (𝓖 .A) (𝓜 .mem) (𝓡 .run)) 𝓜 𝓡 code.env #sessions·at at-def.routine code.calls-sessions·at (at-thm.met 𝓤 H 𝓜 𝓖 𝓡))
+    (cited 𝓤 H (Looks 𝓤 H (𝓖 .A) (𝓜 .mem) (𝓡 .run)) 𝓜 𝓡 code.env #sessions·lookup lookup-def.routine code.calls-sessions·lookup (lookup-thm.met 𝓤 H 𝓜 𝓖 𝓡))
     (cited 𝓤 H (Opens 𝓤 H (𝓖 .A) (𝓜 .mem) (𝓡 .run)) 𝓜 𝓡 code.env #session·open-record open-record-def.routine code.calls-session·open-record (open-record-thm.met 𝓤 H 𝓜 𝓖 𝓡)))

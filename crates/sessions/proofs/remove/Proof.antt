@@ -1,18 +1,19 @@
--- `sessions::remove` meets its contract: a walk of its MIR, by hand. The table is lent as `&` for `find` and `at`, comes back, and goes to `put_at` for good.
+-- Right because a free record is put in the place of the one that lookup takes, and the number tells whether that was used. A walk of the MIR, by hand: the table is lent as `&` for `find` and `at`, comes back, and goes to `put_at` for good.
 -- Assumes nothing.
-use Rattle.sessions.proofs.Kit.{_≡_, refl, sym, _∙_, ap, ℕ, _<_, _^_, true, List, [], _∷_, length, getD, set, URA, fullShare, named, w32, w64, Val, vint, SProp, ent, emp, via, id⊢, fst∗, Lft, GName, Share, ftrue, flft, Memory, Routine, Heap, Calls, Loops, WpFn, Tables, Atoms, Fun, givenOf, tables, tablesOf, Given, ‵, raw, _⊛_, ⋆, _$_, _∵_, !, qed, by, move, drop, use0, split, join, fsplit, fjoin, suffices, frame, done, whole, sub, look-in, agg, look, init, forget, stop, hop, fld, from, load, true-lit, of-opd, addr, assigns, land, no-more, and-then, returns, enter, alloc1, alloc0, params1, pass1, pass0, free1, free0, FmC, fmOf, WpFn-mono, owns, Is, uint-makes, uint-vals, uint-tells, uint-lawful, u64, u32, RefT, now, sliceVal, MutSlice, Room, finally, slice-vals, mut-slice-tells, plain, owned, nothing, Vals, onEntry, Meets, tripleOf, Contract, Triple, entered, cited, says, Stays, stay-none, gave-slice, walkOf, goes-none, goes-gave-slice, Walks, ends-at, walked, walk-meets, yes}
+use Rattle.sessions.proofs.Kit.{_≡_, refl, ℕ, _<_, _^_, true, List, [], _∷_, length, URA, fullShare, named, w32, w64, Val, vint, SProp, ent, emp, via, id⊢, fst∗, Lft, GName, Share, ftrue, flft, Memory, Routine, Heap, Calls, Loops, WpFn, Tables, Atoms, Fun, givenOf, tables, tablesOf, Given, ‵, raw, _⊛_, ⋆, _$_, _∵_, !, qed, by, move, drop, use0, split, join, fsplit, fjoin, suffices, frame, done, whole, sub, look-in, look, init, stop, fld, from, load, true-lit, of-opd, assigns, land, no-more, and-then, returns, enter, alloc1, alloc0, params1, pass1, pass0, FmC, fmOf, WpFn-mono, owns, Is, uint-makes, uint-vals, uint-tells, uint-lawful, u64, u32, RefT, now, sliceVal, MutSlice, Room, finally, slice-vals, mut-slice-tells, plain, owned, nothing, Vals, onEntry, Meets, tripleOf, Contract, Triple, entered, cited, says, Stays, stay-none, gave-slice, walkOf, goes-none, goes-gave-slice, ends-at, walked, walk-meets, yes}
 use denote.Struct.Laws as LL
 use Rattle.session.specs.declared.Session.{Session}
 use Rattle.session.specs.declared.Changed.{Changed}
-use Rattle.session.specs.Records.{free}
 use Rattle.session.specs.OneRecord.{removedOf}
-use Rattle.sessions.specs.Place.{placeOf, recordOf}
 use Rattle.session.proofs.Changed as Ch
 use Rattle.session.proofs.Changed.Laws as Ch′
 use Rattle.sessions.proofs.Walk.{R, mach, typed, record-owned}
+use Rattle.sessions.proofs.Values.{mach-t, changed-typed}
+use Rattle.sessions.proofs.Leaving.{leaves, holds}
+use Rattle.sessions.proofs.Operands.{local, reborrows}
 use Rattle.protocol.specs.SessionTable.{removeNumber, tableAfterRemoving}
 use Rattle.sessions.specs.Reading.{tableOf}
-use Rattle.sessions.proofs.TableLink.{removes, remove-number}
+use Rattle.sessions.proofs.TableCalls.{removed-says}
 use Rattle.sessions.proofs.Said.{calls-said}
 use Rattle.sessions.proofs.Calls.{ref-at, lend, back, Finds, Gets, Puts, calls-find, calls-get, calls-put}
 use Rattle.sessions.proofs.find.Symbol as find-def
@@ -36,9 +37,6 @@ use Rattle.sessions.proofs.remove.Code as code
 abbrev stayed : Stays (remove.ended .signature .params) (remove.ended .kept)
 stayed = (gave-slice (0 ∷ []) tt (plain (λ _. R)), (stay-none (λ _. u64) yes, tt))
 
-abbrev mach-t : Changed → Val
-mach-t t = LL.val Ch.the-type Ch′.the-laws t
-
 module _ {M : Type 1} (𝓤 : URA M) (H : Heap 𝓤) (A : Atoms 𝓤) (mem : Memory → SProp 𝓤) (run : Routine → Fun 𝓤) where
   abbrev Removes : Contract 𝓤
   Removes = tripleOf 𝓤 H A remove-record.signature (remove-record.spec 𝓤 H A mem run)
@@ -48,13 +46,6 @@ module _ {M : Type 1} (𝓤 : URA M) (H : Heap 𝓤) (A : Atoms 𝓤) (mem : Mem
 
   asks-remove : Given 𝓤 H A → (s : Session) → Is R s (mach s ∷ []) → ent 𝓤 (emp 𝓤) (Removes .pre (to-remove s))
   asks-remove W s gs = qed W [] ∵ nothing ! $ record-owned ! s _ gs $ fjoin ! $ nothing ! $ join ! $ frame ! $ done !
-
--- what the contract says, from what the callees say
-removed-says : (ys zs : List Session) (id i : ℕ) (s : Session) (t : Changed) → i ≡ placeOf id ys → s ≡ getD ys i free → t ≡ removedOf s → zs ≡ set ys i (t .session)
-    → (t .number ≡ removeNumber id (tableOf ys)) × (tableOf zs ≡ tableAfterRemoving id (tableOf ys))
-removed-says ys zs id i s t e e′ et ez =
-    let at-t : t ≡ removedOf (recordOf id ys) = et ∙ ap removedOf (e′ ∙ ap (λ (k : ℕ). getD ys k free) e) in
-    (ap (λ (z : Changed). z .number) at-t ∙ sym (remove-number id ys), ap tableOf (ez ∙ (λ j. set ys (e j) (at-t j .session))) ∙ sym (removes id ys))
 
 module _ {M : Type 1} (𝓤 : URA M) (H : Heap 𝓤) (A : Atoms 𝓤) (W : Given 𝓤 H A) (mem : Memory → SProp 𝓤) (run : Routine → Fun 𝓤) (κ : Lft) (q : Share) (b o : ℕ) (γ : GName) (ys : List Session) (id : ℕ) (room : Room R (length ys)) (id-fits : id < 2 ^ 64) where
   abbrev a : RefT (List Session) × (ℕ × Unit {0})
@@ -88,39 +79,32 @@ module _ {M : Type 1} (𝓤 : URA M) (H : Heap 𝓤) (A : Atoms 𝓤) (W : Given
         move ! (27 ∷ []) $ fsplit ! $ move ! (1 ∷ []) $ drop ! $ move ! (27 ∷ []) $ split ! $ move ! (1 ∷ []) $ drop ! $ move ! (1 ∷ 0 ∷ []) $
         -- the table is lent as `&`: [ν's token; the `&`; what is lent out; _12; …]
         lend R (named 0) κ q γ b o ys ! tt (λ ν δ.
-        assigns ! (addr ! (from ! (fld ! refl (hop ! (look-in ! 25 (sub ! 0 refl (whole !))) (stop !))))) (from ! (stop !)) (init ! 15 refl (tt, tt)) $
-        assigns ! (agg ! (and-then ! (load ! (from ! (stop !)) (look ! 15 refl)) (and-then ! (load ! (from ! (fld ! refl (stop !))) (look-in ! 25 (sub ! 1 refl (whole !)))) (no-more !)))) (from ! (stop !)) (init ! 13 refl (tt, (tt, (record { fits = room .0 }, tt)))) $
-        calls-find mem run (ν ∷ []) fullShare b o δ ys ! fm kf true id id-fits (and-then ! (load ! (from ! (stop !)) (look ! 13 refl)) (and-then ! (true-lit !) (and-then ! (load ! (from ! (stop !)) (look ! 23 refl)) (no-more !)))) (λ i e gi.
+        reborrows ! refl refl (look-in ! 25 (sub ! 0 refl (whole !))) (init ! 15 refl (tt, tt)) (look ! 15 refl) (look-in ! 25 (sub ! 1 refl (whole !))) (init ! 13 refl (tt, (tt, (record { fits = room .0 }, tt)))) $
+        calls-find mem run (ν ∷ []) fullShare b o δ ys ! fm kf true id id-fits (and-then ! (local ! 13 refl) (and-then ! (true-lit !) (and-then ! (local ! 23 refl) (no-more !)))) (λ i e gi.
         land ! (from ! (stop !)) (init ! 21 refl (tt, record { fits = gi })) $
-        assigns ! (addr ! (from ! (fld ! refl (hop ! (look-in ! 25 (sub ! 0 refl (whole !))) (stop !))))) (from ! (stop !)) (init ! 11 refl (tt, tt)) $
-        assigns ! (agg ! (and-then ! (load ! (from ! (stop !)) (look ! 11 refl)) (and-then ! (load ! (from ! (fld ! refl (stop !))) (look-in ! 25 (sub ! 1 refl (whole !)))) (no-more !)))) (from ! (stop !)) (init ! 9 refl (tt, (tt, (record { fits = room .0 }, tt)))) $
-        calls-get mem run (ν ∷ []) fullShare b o δ ys ! fm kg i gi (and-then ! (load ! (from ! (stop !)) (look ! 9 refl)) (and-then ! (load ! (from ! (stop !)) (look ! 21 refl)) (no-more !))) (λ s e′ gs.
+        reborrows ! refl refl (look-in ! 25 (sub ! 0 refl (whole !))) (init ! 11 refl (tt, tt)) (look ! 11 refl) (look-in ! 25 (sub ! 1 refl (whole !))) (init ! 9 refl (tt, (tt, (record { fits = room .0 }, tt)))) $
+        calls-get mem run (ν ∷ []) fullShare b o δ ys ! fm kg i gi (and-then ! (local ! 9 refl) (and-then ! (local ! 21 refl) (no-more !))) (λ s e′ gs.
         land ! (from ! (stop !)) (init ! 19 refl (typed 𝓤 H A W s (mach s) gs)) $
         -- it is back: [the table; its token; _12; …]
         back R (named 0) κ q γ b o ys ! tt ν δ room $
         use0 W (raw (Removes 𝓤 H A mem run .pre (to-remove 𝓤 H A mem run s))) (asks-remove 𝓤 H A mem run W s gs) $
-        calls-said remove-record.ended (remove-record.clauses 𝓤 H A mem run) ! fm kr (to-remove 𝓤 H A mem run s) (λ t ws. t ≡ removedOf s) (λ t ws. id⊢ 𝓤 _) mach-t (LL.tells Ch.the-type Ch′.the-laws) (and-then ! (load ! (from ! (stop !)) (look ! 19 refl)) (no-more !)) (λ t ws et gt. drop ! $ drop ! $
-        land ! (from ! (stop !)) (init ! 16 refl (LL.lawful Ch.the-type Ch′.the-laws 𝓤 H A W .typed t _ gt .0)) $
-        assigns ! (addr ! (from ! (fld ! refl (hop ! (look-in ! 24 (sub ! 0 refl (whole !))) (stop !))))) (from ! (stop !)) (init ! 4 refl (tt, tt)) $
-        assigns ! (agg ! (and-then ! (load ! (from ! (stop !)) (look ! 4 refl)) (and-then ! (load ! (from ! (fld ! refl (stop !))) (look-in ! 24 (sub ! 1 refl (whole !)))) (no-more !)))) (from ! (stop !)) (init ! 2 refl (tt, (tt, (record { fits = room .0 }, tt)))) $
+        calls-said remove-record.ended (remove-record.clauses 𝓤 H A mem run) ! fm kr (to-remove 𝓤 H A mem run s) (λ t ws. t ≡ removedOf s) (λ t ws. id⊢ 𝓤 _) mach-t (LL.tells Ch.the-type Ch′.the-laws) (and-then ! (local ! 19 refl) (no-more !)) (λ t ws et gt. drop ! $ drop ! $
+        land ! (from ! (stop !)) (init ! 16 refl (changed-typed W t gt)) $
+        reborrows ! refl refl (look-in ! 24 (sub ! 0 refl (whole !))) (init ! 4 refl (tt, tt)) (look ! 4 refl) (look-in ! 24 (sub ! 1 refl (whole !))) (init ! 2 refl (tt, (tt, (record { fits = room .0 }, tt)))) $
         let parts = LL.owed Ch.the-type Ch′.the-laws t _ gt in
-        move ! (1 ∷ 0 ∷ []) $ calls-put mem run κ q b o γ ys ! fm kp i (t .session) gi (parts .1 .0) (and-then ! (load ! (from ! (stop !)) (look ! 1 refl)) (and-then ! (load ! (from ! (stop !)) (look ! 19 refl)) (and-then ! (load ! (from ! (fld ! refl (stop !))) (look-in ! 15 (sub ! 1 refl (whole !)))) (no-more !)))) (λ zs ez lz.
+        move ! (1 ∷ 0 ∷ []) $ calls-put mem run κ q b o γ ys ! fm kp i (t .session) gi (parts .1 .0) (and-then ! (local ! 1 refl) (and-then ! (local ! 19 refl) (and-then ! (load ! (from ! (fld ! refl (stop !))) (look-in ! 15 (sub ! 1 refl (whole !)))) (no-more !)))) (λ zs ez lz.
         land ! (from ! (stop !)) (init ! 6 refl (tt, tt)) $
         assigns ! (of-opd ! (load ! (from ! (fld ! refl (stop !))) (look-in ! 16 (sub ! 0 refl (whole !))))) (from ! (stop !)) (init ! 26 refl (uint-lawful 𝓤 H A W w32 .typed (t .number) _ (parts .0) .0)) $
-        returns ! (look ! 26 refl) $ forget ! 2 refl $ forget ! 4 refl $ forget ! 6 refl $ forget ! 8 refl $ forget ! 10 refl $ forget ! 12 refl $ forget ! 14 refl $ forget ! 16 refl $ forget ! 18 refl $ forget ! 20 refl $ forget ! 22 refl $ forget ! 24 refl $ forget ! 26 refl $
-        move ! (26 ∷ 27 ∷ []) $ free1 ! $ move ! (24 ∷ 25 ∷ []) $ free1 ! $ move ! (22 ∷ 23 ∷ []) $ free1 ! $ move ! (20 ∷ 21 ∷ []) $ free1 ! $ move ! (18 ∷ 19 ∷ []) $ free1 ! $ move ! (16 ∷ 17 ∷ []) $ free1 ! $ move ! (14 ∷ 15 ∷ []) $ free1 ! $ move ! (12 ∷ 13 ∷ []) $ free1 ! $ move ! (10 ∷ 11 ∷ []) $ free1 ! $ move ! (8 ∷ 9 ∷ []) $ free1 ! $ move ! (6 ∷ 7 ∷ []) $ free1 ! $ move ! (4 ∷ 5 ∷ []) $ free1 ! $ move ! (2 ∷ 3 ∷ []) $ free1 ! $ free0 ! $
+        returns ! (look ! 26 refl) $ leaves ! 2 (holds _ ∷ holds _ ∷ holds _ ∷ holds _ ∷ holds _ ∷ holds _ ∷ holds _ ∷ holds _ ∷ holds _ ∷ holds _ ∷ holds _ ∷ holds _ ∷ holds _ ∷ []) refl $
         by ! (exits (t .number) _ zs (parts .0) lz (removed-says ys zs id i s t e e′ et ez))))))))))))))))))))
-
-module _ {M : Type 1} (𝓤 : URA M) (H : Heap 𝓤) (A : Atoms 𝓤) (W : Given 𝓤 H A) (mem : Memory → SProp 𝓤) (run : Routine → Fun 𝓤) where
-  remove-walks : (C : Calls 𝓤 H) (Λ : Loops 𝓤 H) → FmC 𝓤 H (W .laws) C → Triple 𝓤 (C #sessions·find) (Finds 𝓤 H A mem run) → Triple 𝓤 (C #sessions·at) (Gets 𝓤 H A mem run) → Triple 𝓤 (C #session·remove-record) (Removes 𝓤 H A mem run) → Triple 𝓤 (C #sessions·put-at) (Puts 𝓤 H A mem run) → Walks 𝓤 H A remove.ended stayed (WpFn 𝓤 H C Λ code.function) (remove.clauses 𝓤 H A mem run)
-  remove-walks C Λ fm kf kg kr kp = walked 𝓤 H A remove.ended stayed (remove.clauses 𝓤 H A mem run) (WpFn 𝓤 H C Λ code.function)
-      (λ κs. (slice-vals, (uint-vals w64, tt))) (λ κs. (mut-slice-tells (named 0) (κs .0) R, (uint-tells w64, tt)))
-      (λ κs qs bounds a g are. via 𝓤 _ (fst∗ 𝓤 _ (emp 𝓤)) (walk 𝓤 H A W mem run (κs .0) (qs .0) (a .0 .ptr .0) (a .0 .ptr .1) (a .0 .name) (a .0 .now) (a .1 .0) (are .0 .0 .1) (are .1 .0 .1) C Λ fm kf kg kr kp))
 
 remove-meets : {M : Type 1} (𝓤 : URA M) (H : Heap 𝓤) (A : Atoms 𝓤) (W : Given 𝓤 H A) (mem : Memory → SProp 𝓤) (run : Routine → Fun 𝓤) (𝓣 : Tables 𝓤 H) → Triple 𝓤 (𝓣 .C #sessions·find) (Finds 𝓤 H A mem run) → Triple 𝓤 (𝓣 .C #sessions·at) (Gets 𝓤 H A mem run) → Triple 𝓤 (𝓣 .C #session·remove-record) (Removes 𝓤 H A mem run) → Triple 𝓤 (𝓣 .C #sessions·put-at) (Puts 𝓤 H A mem run) → Meets 𝓤 H A remove.signature (WpFn 𝓤 H (𝓣 .C) (𝓣 .Λ) code.function) (remove.spec 𝓤 H A mem run)
 remove-meets 𝓤 H A W mem run 𝓣 kf kg kr kp =
     walk-meets 𝓤 H A remove.ended stayed W (goes-gave-slice 𝓤 H A W 1 0 tt (plain (λ _. R)), (goes-none 𝓤 H A W 1 (λ _. u64) yes (λ κs x f. refl), tt)) (remove.clauses 𝓤 H A mem run)
-    (WpFn 𝓤 H (𝓣 .C) (𝓣 .Λ) code.function) (WpFn-mono 𝓤 H (W .laws) 𝓣 code.function) (remove-walks 𝓤 H A W mem run (𝓣 .C) (𝓣 .Λ) (fmOf 𝓤 H (W .laws) 𝓣) kf kg kr kp)
+    (WpFn 𝓤 H (𝓣 .C) (𝓣 .Λ) code.function) (WpFn-mono 𝓤 H (W .laws) 𝓣 code.function)
+    (walked 𝓤 H A remove.ended stayed (remove.clauses 𝓤 H A mem run) (WpFn 𝓤 H (𝓣 .C) (𝓣 .Λ) code.function)
+    (λ κs. (slice-vals, (uint-vals w64, tt))) (λ κs. (mut-slice-tells (named 0) (κs .0) R, (uint-tells w64, tt)))
+    (λ κs qs bounds a g are. via 𝓤 _ (fst∗ 𝓤 _ (emp 𝓤)) (walk 𝓤 H A W mem run (κs .0) (qs .0) (a .0 .ptr .0) (a .0 .ptr .1) (a .0 .name) (a .0 .now) (a .1 .0) (are .0 .0 .1) (are .1 .0 .1) (𝓣 .C) (𝓣 .Λ) (fmOf 𝓤 H (W .laws) 𝓣) kf kg kr kp)))
 
 pub remove-spec : {M : Type 1} → stated.statement M
 unfolding code.routine tablesOf
