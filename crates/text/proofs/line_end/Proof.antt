@@ -4,8 +4,8 @@ use mathlib.Core.Path.{_≡_}
 use borrow.Author.Needs.{needs}
 use lib.ListN.{length}
 use Prim.Native.Nat.{_≤_, _-_, _<_}
-use Rattle.vectors.proofs.text.line_end.Statement.{statement}
-use Rattle.vectors.proofs.text.line_end.Tie as tie
+use Rattle.text.proofs.line_end.Statement.{statement}
+use Rattle.text.proofs.line_end.Tie as tie
 
 abbrev Inv-loop : tie.InvT-loop
 Inv-loop text at i₀ i = (at ≤ i) × (i ≤ length text) × (at < length text) × (i₀ ≡ at)

@@ -1,4 +1,5 @@
-// Lines of words: a name, then byte strings in hexadecimal, with one space between two words. `-` is the empty string.
+// What the programs read and write: lines of words, which are byte strings in hexadecimal with one space between two. `-` is the
+// empty string.
 ghost use Prim.Native.Nat.{_≤_, _<_};
 ghost use lib.ListN.{length};
 use libc::STDOUT_FILENO;
@@ -83,6 +84,35 @@ pub fn after_space(line: &[u8], at: usize) -> usize {
     i
 }
 
+// A number of at most eight bytes, and where the next word begins.
+pub struct Number {
+    pub value: u64,
+    pub next: usize,
+}
+
+// n with one byte more.
+fn shifted(n: u64, b: u8) -> u64 {
+    (n << 8) | (b as u64)
+}
+
+pub fn read_number(line: &[u8], at: usize) -> Number {
+    let mut b = [0u8; 8];
+    let w = bytes(line, at, &mut b);
+    let len = w.len;
+    let mut n: u64 = 0;
+    let mut i: usize = 0;
+    while i < 8 {
+        if i < len {
+            n = shifted(n, b[i]);
+        }
+        i += 1;
+    }
+    Number {
+        value: n,
+        next: w.next,
+    }
+}
+
 // Whether the line begins with a name and a space.
 pub fn is(line: &[u8], name: &[u8]) -> bool {
     let mut i: usize = 0;
@@ -151,23 +181,6 @@ pub fn show_decimal(n: u64) {
 // All 16 digits of a number.
 pub fn show_64(n: u64) {
     io::print_hex(STDOUT_FILENO, n, 16);
-}
-
-// A ciphertext and its tag.
-pub fn show_sealed(message: &[u8], tag: [u8; 16]) {
-    show(message);
-    io::write_all(STDOUT_FILENO, b" ");
-    show_16(tag);
-}
-
-// Whether a message was opened, and what its buffer holds.
-pub fn show_opened(opened: bool, message: &[u8]) {
-    if opened {
-        io::write_all(STDOUT_FILENO, b" 1 ");
-    } else {
-        io::write_all(STDOUT_FILENO, b" 0 ");
-    }
-    show(message);
 }
 
 pub fn end_line() {

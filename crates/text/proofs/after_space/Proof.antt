@@ -3,8 +3,8 @@
 use borrow.Author.Needs.{needs}
 use lib.ListN.{length}
 use Prim.Native.Nat.{_-_}
-use Rattle.vectors.proofs.text.after_space.Statement.{statement}
-use Rattle.vectors.proofs.text.after_space.Tie as tie
+use Rattle.text.proofs.after_space.Statement.{statement}
+use Rattle.text.proofs.after_space.Tie as tie
 
 abbrev Inv-loop : tie.InvT-loop
 Inv-loop line at i₀ i = Unit {0}

@@ -3,8 +3,8 @@
 use borrow.Author.Needs.{needs}
 use lib.ListN.{length}
 use Prim.Native.Nat.{_≤_, _-_}
-use Rattle.vectors.proofs.text.show.Statement.{statement}
-use Rattle.vectors.proofs.text.show.Tie as tie
+use Rattle.text.proofs.show.Statement.{statement}
+use Rattle.text.proofs.show.Tie as tie
 
 abbrev Inv-loop : tie.InvT-loop
 Inv-loop b i₀ i = i ≤ length b

@@ -3,8 +3,8 @@
 use borrow.Author.Needs.{needs}
 use lib.ListN.{length}
 use Prim.Native.Nat.{_-_}
-use Rattle.vectors.proofs.text.is.Statement.{statement}
-use Rattle.vectors.proofs.text.is.Tie as tie
+use Rattle.text.proofs.is.Statement.{statement}
+use Rattle.text.proofs.is.Tie as tie
 
 abbrev Inv-loop : tie.InvT-loop
 Inv-loop line name i₀ i = Unit {0}

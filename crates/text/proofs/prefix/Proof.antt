@@ -4,8 +4,8 @@ use native.Mathlib.Omega.{arith}
 use mathlib.Core.Path.{sym}
 use lib.Seq.{length-take-le}
 use borrow.Author.Needs.{needs}
-use Rattle.vectors.proofs.text.prefix.Statement.{statement}
-use Rattle.vectors.proofs.text.prefix.Tie as tie
+use Rattle.text.proofs.prefix.Statement.{statement}
+use Rattle.text.proofs.prefix.Tie as tie
 
 slice-aggregate-result : tie.Need-slice-aggregate-result
 slice-aggregate-result c = sym (length-take-le _ _ (omega arith))

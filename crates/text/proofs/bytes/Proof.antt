@@ -5,8 +5,8 @@ use borrow.Author.Needs.{needs}
 use lib.ListN.{length, length-set}
 use native.Mathlib.Omega.{arith}
 use Prim.Native.Nat.{_≤_, _-_}
-use Rattle.vectors.proofs.text.bytes.Statement.{statement}
-use Rattle.vectors.proofs.text.bytes.Tie as tie
+use Rattle.text.proofs.bytes.Statement.{statement}
+use Rattle.text.proofs.bytes.Tie as tie
 
 abbrev Inv-loop : tie.InvT-loop
 Inv-loop line at out₀ n₀ out n = (n ≤ length out₀) × (length out ≡ length out₀)
