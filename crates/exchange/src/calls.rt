@@ -38,7 +38,7 @@ pub fn seal(what: &[u8], from: [Session; 4], c: Connection, id: u64, plain: [u8;
     let after = r.table;
     let s = sessions_by_value::lookup_in(after, id);
     let same = message::same(&m, &plain, 0, 180);
-    show::sealed(what, answer, m, same, s.counter);
+    show::sealed(what, answer, s.counter, m, same);
     Sent {
         table: after,
         message: m,
@@ -53,4 +53,22 @@ pub fn open(what: &[u8], t: [Session; 4], c: Connection, sealed: [u8; 180], plai
     let header = message::same(&m, &sealed, 0, 52);
     let inner = message::same(&m, &plain, 52, 180);
     show::opened(what, answer, same, header & inner);
+}
+
+// One end seals, and another opens what it sealed. Gives the first end's table.
+pub fn across(
+    seals: &[u8],
+    opens: &[u8],
+    from: [Session; 4],
+    c: Connection,
+    to: [Session; 4],
+    d: Connection,
+    id: u64,
+    plain: [u8; 180],
+) -> [Session; 4] {
+    let sent = seal(seals, from, c, id, plain);
+    let sealed = sent.message;
+    open(opens, to, d, sealed, plain);
+    let after = sent.table;
+    after
 }

@@ -32,22 +32,34 @@ pub fn damaged(l: Login, e: Ends) -> Ends {
 
 // 9: an end opens what it sealed itself.
 pub fn own_direction(l: Login, e: Ends) -> Ends {
-    let m = message::plain(l.id, 7);
     let c = login::client(l);
     let s = login::server(l);
-    let client = e.client;
-    let server = e.server;
-    let at_client = calls::seal(b"client seals", client, c, l.id, m);
-    let t1 = at_client.table;
-    let b1 = at_client.message;
-    calls::open(b"client opens its own message", t1, c, b1, m);
-    let at_server = calls::seal(b"server seals", server, s, l.id, m);
-    let t2 = at_server.table;
-    let b2 = at_server.message;
-    calls::open(b"server opens its own message", t2, s, b2, m);
+    let m = message::plain(l.id, 7);
+    let t1 = e.client;
+    let t2 = e.server;
+    let t3 = calls::across(
+        b"client seals",
+        b"client opens its own message",
+        t1,
+        c,
+        t1,
+        c,
+        l.id,
+        m,
+    );
+    let t4 = calls::across(
+        b"server seals",
+        b"server opens its own message",
+        t2,
+        s,
+        t2,
+        s,
+        l.id,
+        m,
+    );
     Ends {
-        client: t1,
-        server: t2,
+        client: t3,
+        server: t4,
     }
 }
 

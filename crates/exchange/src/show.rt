@@ -76,17 +76,17 @@ fn unchanged(same: bool) {
     }
 }
 
-// A seal: the tag, or that the message is as it was; and the record's counter after it.
-pub fn sealed(what: &[u8], out: Outcome, message: [u8; 180], same: bool, counter: u64) {
+// A seal: the record's counter after it, and the sealed message or that it is as it was.
+pub fn sealed(what: &[u8], out: Outcome, counter: u64, message: [u8; 180], same: bool) {
     outcome(what, out);
+    say(b", counter ");
+    text::show_decimal(counter);
     if compound::refused(out) {
         unchanged(same);
     } else {
-        say(b", tag ");
-        text::show(&message[4..20]);
+        say(b", ");
+        text::show(&message);
     }
-    say(b", counter ");
-    text::show_decimal(counter);
     text::end_line();
 }
 

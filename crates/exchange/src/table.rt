@@ -71,6 +71,7 @@ pub fn full(l: Login, e: Ends) -> Ends {
 // 6: the client has taken the session out.
 pub fn removed(l: Login, e: Ends) -> Ends {
     let c = login::client(l);
+    let s = login::server(l);
     let m = message::plain(l.id, 12);
     let client = e.client;
     let server = e.server;
@@ -79,10 +80,7 @@ pub fn removed(l: Login, e: Ends) -> Ends {
     let t2 = calls::remove(b"client removes it again", t1, l.id);
     let sent = calls::seal(b"client seals", t2, c, l.id, m);
     let t3 = sent.table;
-    let came = calls::seal(b"server seals", server, login::server(l), l.id, m);
-    let t4 = came.table;
-    let sealed = came.message;
-    calls::open(b"client opens", t3, c, sealed, m);
+    let t4 = calls::across(b"server seals", b"client opens", server, s, t3, c, l.id, m);
     Ends {
         client: t3,
         server: t4,
@@ -104,14 +102,8 @@ pub fn added_again(l: Login, e: Ends) -> Ends {
         login::adding(l.id),
     );
     counter(t1, l.id);
-    let sent = calls::seal(b"client seals", t1, c, l.id, m1);
-    let t2 = sent.table;
-    let b1 = sent.message;
-    calls::open(b"server opens", server, s, b1, m1);
-    let came = calls::seal(b"server seals", server, s, l.id, m2);
-    let t3 = came.table;
-    let b2 = came.message;
-    calls::open(b"client opens", t2, c, b2, m2);
+    let t2 = calls::across(b"client seals", b"server opens", t1, c, server, s, l.id, m1);
+    let t3 = calls::across(b"server seals", b"client opens", server, s, t2, c, l.id, m2);
     Ends {
         client: t2,
         server: t3,

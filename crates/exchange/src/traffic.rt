@@ -9,14 +9,21 @@ use session::Connection;
 use session::Session;
 
 pub fn client_seals_and_server_opens(l: Login, e: Ends) -> Ends {
+    let c = login::client(l);
+    let s = login::server(l);
     let m = message::compounded(l.id, 1);
     let client = e.client;
     let server = e.server;
-    let sent = calls::seal(b"client seals", client, login::client(l), l.id, m);
-    let sealed = sent.message;
-    let after = sent.table;
-    show::bytes(b"sealed message", &sealed);
-    calls::open(b"server opens", server, login::server(l), sealed, m);
+    let after = calls::across(
+        b"client seals",
+        b"server opens",
+        client,
+        c,
+        server,
+        s,
+        l.id,
+        m,
+    );
     Ends {
         client: after,
         server: server,
@@ -24,14 +31,21 @@ pub fn client_seals_and_server_opens(l: Login, e: Ends) -> Ends {
 }
 
 pub fn server_seals_and_client_opens(l: Login, e: Ends) -> Ends {
+    let c = login::client(l);
+    let s = login::server(l);
     let m = message::plain(l.id, 2);
     let client = e.client;
     let server = e.server;
-    let sent = calls::seal(b"server seals", server, login::server(l), l.id, m);
-    let sealed = sent.message;
-    let after = sent.table;
-    show::bytes(b"sealed message", &sealed);
-    calls::open(b"client opens", client, login::client(l), sealed, m);
+    let after = calls::across(
+        b"server seals",
+        b"client opens",
+        server,
+        s,
+        client,
+        c,
+        l.id,
+        m,
+    );
     Ends {
         client: client,
         server: after,
