@@ -1,5 +1,4 @@
 // FIPS 197.
-use crate::text;
 
 // expand KEY: the round keys.
 pub fn expand(line: &[u8]) {

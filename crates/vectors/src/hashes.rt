@@ -1,5 +1,4 @@
 // FIPS 180-4, FIPS 198-1 and SP 800-108.
-use crate::text;
 ghost use Prim.Native.Nat.{_≤_};
 
 // sha256 MESSAGE: its digest.

@@ -4,7 +4,6 @@ mod block_cipher;
 mod hashes;
 mod modes;
 mod smb;
-mod text;
 
 // The operation of the protocol that a line names.
 fn run_smb(line: &[u8]) {

@@ -1,6 +1,5 @@
 // SP 800-38C and SP 800-38D. Each line gives: the ciphertext and the tag; 0 and the ciphertext, from opening with a tag that is
 // wrong in its last bit; 1 and the plaintext, from opening with the tag.
-use crate::text;
 ghost use Prim.Native.Nat.{_<_, _≤_};
 ghost use lib.ListN.{length};
 
@@ -9,6 +8,23 @@ fn damaged(tag: [u8; 16]) -> [u8; 16] {
     let mut t = tag;
     t[15] = t[15] ^ 1;
     t
+}
+
+// A ciphertext and its tag.
+fn show_sealed(message: &[u8], tag: [u8; 16]) {
+    text::show(message);
+    text::space();
+    text::show_16(tag);
+}
+
+// Whether a message was opened, and what its buffer holds.
+fn show_opened(opened: bool, message: &[u8]) {
+    if opened {
+        io::write_all(libc::STDOUT_FILENO, b" 1 ");
+    } else {
+        io::write_all(libc::STDOUT_FILENO, b" 0 ");
+    }
+    text::show(message);
 }
 
 // ccm KEY NONCE AAD TEXT.
@@ -30,11 +46,11 @@ fn ccm_there_and_back(keys: &[[u8; 16]], nonce: [u8; 11], aad: [u8; 32], message
     requires { ⌜ (1 < length (now keys)) × (length (now message) ≤ 256) ⌝ }
 {
     let tag = ccm::seal(keys, nonce, aad, message);
-    text::show_sealed(message, tag);
+    show_sealed(message, tag);
     let wrong = ccm::open(keys, nonce, aad, damaged(tag), message);
-    text::show_opened(wrong, message);
+    show_opened(wrong, message);
     let right = ccm::open(keys, nonce, aad, tag, message);
-    text::show_opened(right, message);
+    show_opened(right, message);
     text::end_line();
 }
 
@@ -57,10 +73,10 @@ fn gcm_there_and_back(keys: &[[u8; 16]], nonce: [u8; 12], aad: &[u8], message: &
     requires { ⌜ (1 < length (now keys)) × (length (now aad) ≤ 128) × (length (now message) ≤ 256) ⌝ }
 {
     let tag = gcm::seal(keys, nonce, aad, message);
-    text::show_sealed(message, tag);
+    show_sealed(message, tag);
     let wrong = gcm::open(keys, nonce, aad, damaged(tag), message);
-    text::show_opened(wrong, message);
+    show_opened(wrong, message);
     let right = gcm::open(keys, nonce, aad, tag, message);
-    text::show_opened(right, message);
+    show_opened(right, message);
     text::end_line();
 }

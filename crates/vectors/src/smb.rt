@@ -1,36 +1,6 @@
 // The library's five functions. Numbers are byte strings with the highest byte first.
-use crate::text;
 ghost use Prim.Native.Nat.{_≤_};
 ghost use lib.ListN.{length};
-
-// A number of at most eight bytes, and where the next word begins.
-struct Number {
-    value: u64,
-    next: usize,
-}
-
-// n with one byte more.
-fn shifted(n: u64, b: u8) -> u64 {
-    (n << 8) | (b as u64)
-}
-
-fn read_number(line: &[u8], at: usize) -> Number {
-    let mut b = [0u8; 8];
-    let w = text::bytes(line, at, &mut b);
-    let len = w.len;
-    let mut n: u64 = 0;
-    let mut i: usize = 0;
-    while i < 8 {
-        if i < len {
-            n = shifted(n, b[i]);
-        }
-        i += 1;
-    }
-    Number {
-        value: n,
-        next: w.next,
-    }
-}
 
 fn low_16(n: u64) -> u16 {
     (n % 65536) as u16
@@ -71,7 +41,7 @@ pub fn fold_response(line: &[u8]) {
 
 // derive DIALECT MATERIAL CHAIN: the number, and the first `count` bytes of the place for the keys.
 pub fn derive(line: &[u8], count: usize) {
-    let dialect = read_number(line, text::after_space(line, 0));
+    let dialect = text::read_number(line, text::after_space(line, 0));
     let mut material = [0u8; 64];
     let m = text::bytes(line, dialect.next, &mut material);
     let mut chain = [0u8; 64];
@@ -100,11 +70,11 @@ struct Lent {
 
 // DIALECT CIPHER KEY ID.
 fn read_lent(line: &[u8]) -> Lent {
-    let dialect = read_number(line, text::after_space(line, 0));
-    let cipher = read_number(line, dialect.next);
+    let dialect = text::read_number(line, text::after_space(line, 0));
+    let cipher = text::read_number(line, dialect.next);
     let mut key = [0u8; 16];
     let k = text::bytes(line, cipher.next, &mut key);
-    let id = read_number(line, k.next);
+    let id = text::read_number(line, k.next);
     Lent {
         dialect: low_16(dialect.value),
         cipher: low_16(cipher.value),
@@ -164,7 +134,7 @@ fn seal_message(l: Lent, c: u64, whole: bool, message: &mut [u8]) {
 // seal DIALECT CIPHER KEY ID COUNTER MESSAGE: the number and the counter; where `whole`, also the headers and the message.
 pub fn seal(line: &[u8], whole: bool) {
     let l = read_lent(line);
-    let counter = read_number(line, l.next);
+    let counter = text::read_number(line, l.next);
     let mut message = [0u8; 1024];
     let m = text::bytes(line, counter.next, &mut message);
     let len = m.len;
@@ -191,7 +161,7 @@ fn zeros() -> [u8; 1048640] {
 
 // seal-length LENGTH: the number for an inner message of so many bytes.
 pub fn seal_length(line: &[u8]) {
-    let n = read_number(line, text::after_space(line, 0));
+    let n = text::read_number(line, text::after_space(line, 0));
     let len = n.value;
     let mut message = zeros();
     if len < 64 {

@@ -1,0 +1,201 @@
+// What is refused, and leaves message and counter as they were.
+use crate::calls;
+use crate::login;
+use crate::login::Ends;
+use crate::login::Login;
+use crate::message;
+use session::Adding;
+use session::Connection;
+use session::Session;
+
+// 9: one bit of the tag, of the ciphertext or of the authenticated Reserved is another.
+pub fn damaged(l: Login, e: Ends) -> Ends {
+    let m = message::plain(l.id, 6);
+    let s = login::server(l);
+    let client = e.client;
+    let server = e.server;
+    let sent = calls::seal(b"client seals", client, login::client(l), l.id, m);
+    let sealed = sent.message;
+    let tag = message::damaged(sealed, 4);
+    calls::open(b"server opens, tag damaged", server, s, tag, m);
+    let body = message::damaged(sealed, 179);
+    calls::open(b"server opens, ciphertext damaged", server, s, body, m);
+    let reserved = message::damaged(sealed, 40);
+    calls::open(b"server opens, Reserved changed", server, s, reserved, m);
+    calls::open(b"server opens, undamaged", server, s, sealed, m);
+    let after = sent.table;
+    Ends {
+        client: after,
+        server: server,
+    }
+}
+
+// 9: an end opens what it sealed itself.
+pub fn own_direction(l: Login, e: Ends) -> Ends {
+    let c = login::client(l);
+    let s = login::server(l);
+    let m = message::plain(l.id, 7);
+    let t1 = e.client;
+    let t2 = e.server;
+    let t3 = calls::across(
+        b"client seals",
+        b"client opens its own message",
+        t1,
+        c,
+        t1,
+        c,
+        l.id,
+        m,
+    );
+    let t4 = calls::across(
+        b"server seals",
+        b"server opens its own message",
+        t2,
+        s,
+        t2,
+        s,
+        l.id,
+        m,
+    );
+    Ends {
+        client: t3,
+        server: t4,
+    }
+}
+
+fn bare(id: u64, guest: bool, anonymous: bool) -> Adding {
+    Adding {
+        dialect: 0x0311,
+        id: id,
+        guest: guest,
+        anonymous: anonymous,
+    }
+}
+
+// A message of the id, sealed and opened at the client. Both are refused.
+fn refused_at_client(
+    seals: &[u8],
+    opens: &[u8],
+    from: [Session; 4],
+    c: Connection,
+    plain: [u8; 180],
+    id: u64,
+) -> [Session; 4] {
+    let sent = calls::seal(seals, from, c, id, plain);
+    let after = sent.table;
+    calls::open(opens, after, c, message::addressed(plain, id), plain);
+    after
+}
+
+// 8: the client has a guest's session, 2, and an anonymous one, 3.
+pub fn guest_and_anonymous(l: Login, e: Ends) -> Ends {
+    let c = login::client(l);
+    let client = e.client;
+    let server = e.server;
+    let t1 = login::client_adds(b"client adds 2, guest", l, client, bare(2, true, false));
+    let t2 = login::client_adds(b"client adds 3, anonymous", l, t1, bare(3, false, true));
+    let m2 = message::plain(2, 8);
+    let t3 = refused_at_client(
+        b"client seals for 2",
+        b"client opens a message for 2",
+        t2,
+        c,
+        m2,
+        2,
+    );
+    let m3 = message::plain(3, 8);
+    let t4 = refused_at_client(
+        b"client seals for 3",
+        b"client opens a message for 3",
+        t3,
+        c,
+        m3,
+        3,
+    );
+    Ends {
+        client: t4,
+        server: server,
+    }
+}
+
+fn constraint(from: Connection) -> Connection {
+    let mut c = from;
+    c.constrained = true;
+    c
+}
+
+// 7: the client's connection is constrained. It comes before 8.
+pub fn constrained(l: Login, e: Ends) -> Ends {
+    let c = constraint(login::client(l));
+    let client = e.client;
+    let server = e.server;
+    let m = message::plain(l.id, 9);
+    let t1 = refused_at_client(
+        b"client seals, constrained",
+        b"client opens, constrained",
+        client,
+        c,
+        m,
+        l.id,
+    );
+    let m2 = message::plain(2, 9);
+    let t2 = refused_at_client(
+        b"client seals for 2, constrained",
+        b"client opens a message for 2, constrained",
+        t1,
+        c,
+        m2,
+        2,
+    );
+    Ends {
+        client: t2,
+        server: server,
+    }
+}
+
+// 6: no session has the id 9.
+pub fn unknown_id(l: Login, e: Ends) -> Ends {
+    let c = login::client(l);
+    let client = e.client;
+    let server = e.server;
+    let m = message::plain(9, 10);
+    let t1 = refused_at_client(
+        b"client seals for 9",
+        b"client opens a message for 9",
+        client,
+        c,
+        m,
+        9,
+    );
+    let t2 = calls::remove(b"client removes 9", t1, 9);
+    Ends {
+        client: t2,
+        server: server,
+    }
+}
+
+fn unencrypted(from: Connection) -> Connection {
+    let mut c = from;
+    c.encryption = false;
+    c
+}
+
+// 1: the client's connection does not encrypt.
+pub fn encryption_off(l: Login, e: Ends) -> Ends {
+    let c = unencrypted(login::client(l));
+    let client = e.client;
+    let server = e.server;
+    let m = message::plain(l.id, 11);
+    let after = refused_at_client(
+        b"client seals, encryption off",
+        b"client opens, encryption off",
+        client,
+        c,
+        m,
+        l.id,
+    );
+    Ends {
+        client: after,
+        server: server,
+    }
+}

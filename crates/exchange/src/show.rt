@@ -1,0 +1,104 @@
+// The lines that are written.
+use compound::Outcome;
+use libc::STDOUT_FILENO;
+use preauth::Folding;
+
+pub fn say(words: &[u8]) {
+    io::write_all(STDOUT_FILENO, words);
+}
+
+// What is done.
+pub fn begin(what: &[u8]) {
+    say(what);
+    say(b": ");
+}
+
+// A step that answers a number alone.
+pub fn number(what: &[u8], n: u32) {
+    begin(what);
+    text::show_decimal(n as u64);
+    text::end_line();
+}
+
+pub fn bytes(what: &[u8], b: &[u8]) {
+    begin(what);
+    text::show(b);
+    text::end_line();
+}
+
+pub fn yes_or_no(what: &[u8], yes: bool) {
+    begin(what);
+    if yes {
+        say(b"yes\n");
+    } else {
+        say(b"no\n");
+    }
+}
+
+// A fold: the number, and 1 for folded, 0 for not folded.
+fn fold(end: &[u8], f: Folding) {
+    say(end);
+    text::show_decimal(preauth::number(f) as u64);
+    if preauth::folded_after(f, 0) == 1 {
+        say(b" folded");
+    } else {
+        say(b" not folded");
+    }
+}
+
+pub fn folds(what: &[u8], client: Folding, server: Folding) {
+    begin(what);
+    fold(b"client ", client);
+    fold(b", server ", server);
+    text::end_line();
+}
+
+// The number, and the headers visited where it is 0.
+fn outcome(what: &[u8], out: Outcome) {
+    begin(what);
+    text::show_decimal(compound::number(out) as u64);
+    if !compound::refused(out) {
+        say(b", headers ");
+        text::show_decimal(compound::headers_after(out, 0));
+    }
+}
+
+pub fn answered(what: &[u8], out: Outcome) {
+    outcome(what, out);
+    text::end_line();
+}
+
+fn unchanged(same: bool) {
+    if same {
+        say(b", message unchanged");
+    } else {
+        say(b", MESSAGE CHANGED");
+    }
+}
+
+// A seal: the record's counter after it, and the sealed message or that it is as it was.
+pub fn sealed(what: &[u8], out: Outcome, counter: u64, message: [u8; 180], same: bool) {
+    outcome(what, out);
+    say(b", counter ");
+    text::show_decimal(counter);
+    if compound::refused(out) {
+        unchanged(same);
+    } else {
+        say(b", ");
+        text::show(&message);
+    }
+    text::end_line();
+}
+
+// An opening: whether header and plaintext are as sealed, or the message is as it was.
+pub fn opened(what: &[u8], out: Outcome, same: bool, plain: bool) {
+    outcome(what, out);
+    if compound::refused(out) {
+        unchanged(same);
+    } else if plain {
+        say(b", bytes as sealed");
+    } else {
+        say(b", OTHER BYTES");
+    }
+    text::end_line();
+}
