@@ -1,18 +1,16 @@
-// The cipher by its number: 2 is AES-128-GCM, which takes the first 12 bytes of the Nonce field, any other AES-128-CCM, which takes 11.
-//
-// The three functions have a `requires`, alone in this layer: number 3 has passed, so that the text is at most 1,048,576 bytes and the
-// modes' 32-bit counters hold it. transform, which calls them, is proved to meet it. For a longer text there is nothing right to return.
+// AES-128-CCM and AES-128-GCM by their number: 2 is GCM, which takes the first 12 bytes of the nonce field, any other CCM, which takes 11.
 ghost use mathlib.Core.Path.{_≡_};
-ghost use Prim.Native.Nat.{ℕ, _≤_};
+ghost use Prim.Native.Nat.{ℕ, _<_};
 ghost use mathlib.Core.List.{List};
 ghost use lib.ListN.{length};
-ghost use Rattle.protocol.specs.Suite.{ciphers};
+ghost use Rattle.gcm.specs.Calls.{longest};
+ghost use Rattle.ciphers.specs.ByNumber.{cipherOf};
 ghost use Rattle.ciphers.specs.Calls.{Enciphered, Deciphered};
 
 // Encrypts the text in place, and returns the tag.
 pub fn seal(cipher: u16, key: [u8; 16], nonce: [u8; 16], aad: [u8; 32], text: &mut [u8]) -> [u8; 16]
-    requires { ⌜ length (now text) ≤ 1048576 ⌝ }
-    ensures { λ r. ⌜ Enciphered cipher key nonce aad (now (text .entry)) (now (text .exit)) r ⌝ }
+    requires { ⌜ length (now text) < longest ⌝ }
+    ensures { λ r. ⌜ Enciphered (cipherOf cipher) key nonce aad (now (text .entry)) (now (text .exit)) r ⌝ }
 {
     let keys = aes::expand_key(key);
     if cipher == 2 {
@@ -30,8 +28,8 @@ pub fn open(
     tag: [u8; 16],
     text: &mut [u8],
 ) -> bool
-    requires { ⌜ length (now text) ≤ 1048576 ⌝ }
-    ensures { λ r. ⌜ Deciphered cipher key nonce aad tag (now (text .entry)) (now (text .exit)) r ⌝ }
+    requires { ⌜ length (now text) < longest ⌝ }
+    ensures { λ r. ⌜ Deciphered (cipherOf cipher) key nonce aad tag (now (text .entry)) (now (text .exit)) r ⌝ }
 {
     let keys = aes::expand_key(key);
     if cipher == 2 {
@@ -42,8 +40,8 @@ pub fn open(
 
 // Applies the key stream: encrypts a text, whatever the authenticated data, and so turns a decrypted one back.
 pub fn apply(cipher: u16, key: [u8; 16], nonce: [u8; 16], text: &mut [u8])
-    requires { ⌜ length (now text) ≤ 1048576 ⌝ }
-    ensures { λ _. ⌜ ((aad : List ℕ) → now (text .exit) ≡ ciphers .encrypt cipher key nonce aad (now (text .entry))) ⌝ }
+    requires { ⌜ length (now text) < longest ⌝ }
+    ensures { λ _. ⌜ ((aad : List ℕ) → now (text .exit) ≡ cipherOf cipher .encrypt key nonce aad (now (text .entry))) ⌝ }
 {
     let keys = aes::expand_key(key);
     if cipher == 2 {

@@ -16,7 +16,8 @@ use Rattle.protocol.specs.SessionTable.{Session, recordOf, addNumber, newRecord
 use Rattle.protocol.specs.TransformHeader.{nonceOf, authenticated, sessionIdOf}
 use Rattle.protocol.specs.UnderKey.{Protection, cipherUsed, counterAfter, sealUnderKeyAnswer, sealUnderKeyBuffer, sealedUnder, openUnderKeyAnswer, openUnderKeyBuffer}
 use Rattle.protocol.specs.Transform.{Connection, openingKey, sealAnswer, sealBuffer, sealTable, plaintext, openAnswer, openBuffer, bufferAfterOpening}
-use Rattle.protocol.specs.Suite.{suite, sha512, kdf, ciphers, cipherOf}
+use Rattle.ciphers.specs.ByNumber.{cipherOf}
+use Rattle.protocol.specs.Suite.{suite, sha512, kdf, ciphers}
 use Rattle.protocol.proofs.SuiteLaws.{sha512-is, kdf-of-document}
 use Rattle.demands.specs.Opening.{Carries, OpensUnderKey, OpensWithTable}
 use Rattle.demands.specs.Demand2.{keyFrom, KeysOfPapers, CiphersOfPapers, SealsUnderKey, SealsWithTable, Demand2}

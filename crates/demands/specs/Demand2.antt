@@ -21,7 +21,8 @@ use Rattle.protocol.specs.SessionTable.{Session, recordOf, changeRecord, Adding
 use Rattle.protocol.specs.TransformHeader.{inner}
 use Rattle.protocol.specs.UnderKey.{Protection, cipherUsed, counterAfter, sealUnderKeyAnswer, sealUnderKeyBuffer, openUnderKeyAnswer, openUnderKeyBuffer}
 use Rattle.protocol.specs.Transform.{Connection, sealingKey, countUp, sealAnswer, bufferAfterSealing, tableAfterSealing, openAnswer, bufferAfterOpening}
-use Rattle.protocol.specs.Suite.{suite, sha512, kdf, ciphers, aes128}
+use Rattle.ciphers.specs.ByNumber.{aes128}
+use Rattle.protocol.specs.Suite.{suite, sha512, kdf, ciphers}
 use Rattle.demands.specs.Opening.{Carries, OpensUnderKey, OpensWithTable}
 
 -- ---- keys

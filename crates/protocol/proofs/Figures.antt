@@ -19,7 +19,8 @@ use Rattle.protocol.specs.Preauth.{setupResponse, foldRefused, foldAnswe
 use Rattle.protocol.specs.Keys.{sessionKey, smbSigningKey, smbAppKey, smbC2SCipherKey, smbS2CCipherKey, smb2AesCmac, smb2App, smb2AesCcm, smbSign, smbRpc, serverIn, serverOut}
 use Rattle.protocol.specs.TransformHeader.{nonceOf, authenticated}
 use Rattle.protocol.specs.UnderKey.{Protection, lastCounter, sealUnderKeyAnswer, openUnderKeyAnswer}
-use Rattle.protocol.specs.Suite.{ciphers, ccmNonce, gcmNonce}
+use Rattle.ciphers.specs.ByNumber.{ccmNonce, gcmNonce}
+use Rattle.protocol.specs.Suite.{ciphers}
 
 abbrev lengths : List Bytes → List ℕ
 lengths [] = []

@@ -19,7 +19,8 @@ use Rattle.gcm.proofs.GcmLaws as gcm-laws
 use Rattle.protocol.specs.Bytes.{Bytes}
 use Rattle.protocol.specs.Keys.{derivationInput}
 use Rattle.protocol.specs.Sound.{Sound}
-use Rattle.protocol.specs.Suite.{suite, sha512, kdf, aes128, ccmNonce, gcmNonce, Cipher, aes128Ccm, aes128Gcm, cipherOf}
+use Rattle.ciphers.specs.ByNumber.{aes128, ccmNonce, gcmNonce, Cipher, aes128Ccm, aes128Gcm, cipherOf}
+use Rattle.protocol.specs.Suite.{suite, sha512, kdf}
 use Rattle.protocol.proofs.HashLengths.{length-hash, length-derived}
 
 -- ---- each part is what its own crate defines

@@ -16,12 +16,13 @@ use Rattle.protocol.specs.Answer.{Answer, refused, isRefused, refuse_when_, fir
 use Rattle.protocol.specs.CompoundWalk.{walk}
 use Rattle.protocol.specs.TransformHeader.{inner, originalMessageSize}
 use Rattle.protocol.specs.UnderKey.{Protection, cipherUsed, firstTests, transformTests, idTests, sizeThenWalk, plaintextUnder, openUnderKeyAnswer, openUnderKeyBuffer}
-use Rattle.protocol.specs.Suite.{ciphers}
+use Rattle.protocol.specs.Suite.{suite, ciphers}
 use Rattle.protocol.proofs.AnswerLaws.{when-done, when-refused}
 use Rattle.protocol.proofs.First.{First, first-passed, key-whole}
 use Rattle.protocol.proofs.FirstOf.{first-of-both}
 use Rattle.protocol.proofs.Judging.{refuses, passes, judge-passed}
 use Rattle.protocol.proofs.SuiteLaws.{suite-sound}
+use Rattle.ciphers.specs.ByNumber.{cipherOf}
 use Rattle.ciphers.specs.Calls.{Deciphered}
 use Rattle.transform.specs.Calls.{OpensText, OpensMessage}
 use Rattle.transform.specs.UnderKey.{OpensUnder}
@@ -35,8 +36,9 @@ module _ (size id n : ℕ) (text : Bytes) where
   size-agrees h = sym (rw (eq-eqb size n h))
 
 -- the text, from the tag on: text1 is what the cipher left, and r whether the tag was right
-module _ (cipher : ℕ) (key nonce auth received : Bytes) (size id : ℕ) (text text1 : Bytes) (r : Bool) (o : Deciphered cipher key nonce auth received text text1 r) where
+module _ (cipher : ℕ) (key nonce auth received : Bytes) (size id : ℕ) (text text1 : Bytes) (r : Bool) (o : Deciphered (cipherOf cipher) key nonce auth received text text1 r) where
   pub tag-wrong : r ≡ false → OpensText cipher key nonce auth received size id text text1 (refused 9)
+  unfolding suite
   tag-wrong q = go (ciphers .decrypt cipher key nonce auth received text) refl (o .right) (o .bytes)
     where
       go : (d : Option Bytes) → ciphers .decrypt cipher key nonce auth received text ≡ d → r ≡ isSome d → text1 ≡ Option·getD d text → OpensText cipher key nonce auth received size id text text1 (refused 9)
@@ -45,6 +47,7 @@ module _ (cipher : ℕ) (key nonce auth received : Bytes) (size id : ℕ) (text 
 
   -- the plaintext is text1
   tag-right : r ≡ true → ciphers .decrypt cipher key nonce auth received text ≡ some text1
+  unfolding suite
   tag-right q = go (ciphers .decrypt cipher key nonce auth received text) (o .right) (o .bytes)
     where
       go : (d : Option Bytes) → r ≡ isSome d → text1 ≡ Option·getD d text → d ≡ some text1
@@ -68,7 +71,8 @@ module _ (cipher : ℕ) (key nonce auth received : Bytes) (size id : ℕ) (text 
         }
 
     -- the key stream, applied again, restores the text
-    pub restored : isRefused a ≡ true → (text2 : Bytes) → text2 ≡ ciphers .encrypt cipher key nonce auth text1 → OpensText cipher key nonce auth received size id text text2 a
+    pub restored : isRefused a ≡ true → (text2 : Bytes) → text2 ≡ (cipherOf cipher) .encrypt key nonce auth text1 → OpensText cipher key nonce auth received size id text text2 a
+    unfolding suite
     restored n text2 e =
         record {
           answer = answered;

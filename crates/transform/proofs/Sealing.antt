@@ -15,10 +15,11 @@ use Rattle.protocol.specs.Answer.{Answer, done, refused, isRefused, firstOf, ju
 use Rattle.protocol.specs.CompoundWalk.{walk}
 use Rattle.protocol.specs.TransformHeader.{protocolId, nonceOf, authenticated, transformMessage, inner}
 use Rattle.protocol.specs.UnderKey.{Protection, cipherUsed, lastCounter, firstTests, counterTests, sealedUnder, sealUnderKeyAnswer, sealUnderKeyBuffer}
-use Rattle.protocol.specs.Suite.{ciphers}
+use Rattle.protocol.specs.Suite.{suite, ciphers}
 use Rattle.protocol.proofs.AnswerLaws.{when-done, when-refused, after-done, after-refused}
 use Rattle.protocol.proofs.First.{First, key-whole}
 use Rattle.protocol.proofs.Judging.{refused-judged, refuses, judge-passed}
+use Rattle.ciphers.specs.ByNumber.{cipherOf}
 use Rattle.ciphers.specs.Calls.{Enciphered}
 use Rattle.transform.specs.Calls.{Sized}
 use Rattle.transform.specs.UnderKey.{SealsUnder}
@@ -48,12 +49,12 @@ header-written m t auth x1 x2 x3 lt la e1 e2 e3 =
 
 module _ (cipher : ℕ) (key : Bytes) (counter id : ℕ) (m : Bytes) (sized : Sized m) where
   pub message-sealed : (nonce auth text′ m2 t : Bytes) → nonce ≡ nonceOf counter → auth ≡ authenticated counter (length m - 52) id
-      → Enciphered cipher key nonce auth (take (length m - 52) (drop 52 m)) text′ t
+      → Enciphered (cipherOf cipher) key nonce auth (take (length m - 52) (drop 52 m)) text′ t
       → m2 ≡ transformMessage t auth (inner (putMid 52 (length m - 52) m text′)) → m2 ≡ sealedUnder ciphers cipher key counter id (inner m)
-  unfolding sealedUnder
+  unfolding suite sealedUnder
   message-sealed nonce auth text′ m2 t en ea s e2 =
       let l = sized .long in
-      let s′ : Enciphered cipher key nonce auth (inner m) text′ t = rw (lent m) at s in
+      let s′ : Enciphered (cipherOf cipher) key nonce auth (inner m) text′ t = rw (lent m) at s in
       let body : inner (putMid 52 (length m - 52) m text′) ≡ text′ = ap (drop 52) (back m text′) ∙ drop-at (take 52 m) text′ 52 (length-take-le 52 m (omega arith)) in
       e2 ∙ rw (body, s′ .bytes, s′ .tagged, ea, en, length-drop 52 m)
 
