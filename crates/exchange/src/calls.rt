@@ -1,5 +1,4 @@
 // The calls with a table, each with the line that shows what it answered and left.
-use crate::message;
 use crate::show;
 use session::Adding;
 use session::Connection;
@@ -37,8 +36,7 @@ pub fn seal(what: &[u8], from: [Session; 4], c: Connection, id: u64, plain: [u8;
     let answer = r.answer;
     let after = r.table;
     let s = sessions_by_value::lookup_in(after, id);
-    let same = message::same(&m, &plain, 0, 180);
-    show::sealed(what, answer, s.counter, m, same);
+    show::sealed(what, answer, s.counter, m, plain);
     Sent {
         table: after,
         message: m,
@@ -49,10 +47,7 @@ pub fn seal(what: &[u8], from: [Session; 4], c: Connection, id: u64, plain: [u8;
 pub fn open(what: &[u8], t: [Session; 4], c: Connection, sealed: [u8; 180], plain: [u8; 180]) {
     let mut m = sealed;
     let answer = sessions_by_value::open_in(t, c, &mut m);
-    let same = message::same(&m, &sealed, 0, 180);
-    let header = message::same(&m, &sealed, 0, 52);
-    let inner = message::same(&m, &plain, 52, 180);
-    show::opened(what, answer, same, header & inner);
+    show::opened(what, answer, m, sealed, plain);
 }
 
 // One end seals, and another opens what it sealed. Gives the first end's table.

@@ -78,23 +78,33 @@ fn fold_all(line: &[u8], at: usize) -> Chains {
     response(b"session setup response, final", line, c5)
 }
 
+// The session that a line is of.
+fn heading(id: u64, cipher: u64) {
+    show::begin(b"session");
+    text::show_64(id);
+    show::say(b", cipher ");
+    text::show_decimal(cipher);
+    text::end_line();
+}
+
+// What the chains have come to.
+fn values(client: [u8; 64], server: [u8; 64]) {
+    let same = message::same(&client, &server, 0, 64);
+    show::yes_or_no(b"chain values equal", same);
+    show::bytes(b"chain value", &client);
+}
+
 // Both ends fold the login's messages.
 pub fn both_fold(line: &[u8]) -> Login {
     let id = text::read_number(line, text::after_space(line, 0));
     let cipher = text::read_number(line, id.next);
     let mut key = [0u8; 16];
     let k = text::bytes(line, cipher.next, &mut key);
-    show::begin(b"session");
-    text::show_64(id.value);
-    show::say(b", cipher ");
-    text::show_decimal(cipher.value);
-    text::end_line();
+    heading(id.value, cipher.value);
     let c = fold_all(line, k.next);
     let client = c.client;
     let server = c.server;
-    let same = message::same(&client, &server, 0, 64);
-    show::yes_or_no(b"chain values equal", same);
-    show::bytes(b"chain value", &client);
+    values(client, server);
     Login {
         id: id.value,
         cipher: (cipher.value % 65536) as u16,

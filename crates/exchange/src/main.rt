@@ -24,10 +24,11 @@ fn messages(line: &[u8], l: Login, from: Ends) -> Ends {
 fn refused(l: Login, from: Ends) -> Ends {
     let e1 = refusals::damaged(l, from);
     let e2 = refusals::own_direction(l, e1);
-    let e3 = refusals::guest_and_anonymous(l, e2);
-    let e4 = refusals::constrained(l, e3);
-    let e5 = refusals::unknown_id(l, e4);
-    refusals::encryption_off(l, e5)
+    let e3 = refusals::guest(l, e2);
+    let e4 = refusals::anonymous(l, e3);
+    let e5 = refusals::constrained(l, e4);
+    let e6 = refusals::unknown_id(l, e5);
+    refusals::encryption_off(l, e6)
 }
 
 // The table: adding that is refused, no room, removing and adding again.

@@ -4,6 +4,22 @@ fn low(n: u64) -> u8 {
     (n % 256) as u8
 }
 
+// With the id at a place, low byte first.
+fn with_id(from: [u8; 180], at: usize, id: u64) -> [u8; 180] {
+    let mut m = from;
+    if at < 172 {
+        m[at] = low(id);
+        m[at + 1] = low(id >> 8);
+        m[at + 2] = low(id >> 16);
+        m[at + 3] = low(id >> 24);
+        m[at + 4] = low(id >> 32);
+        m[at + 5] = low(id >> 40);
+        m[at + 6] = low(id >> 48);
+        m[at + 7] = low(id >> 56);
+    }
+    m
+}
+
 // One header, and 64 bytes of which the last is the number.
 pub fn plain(id: u64, number: u8) -> [u8; 180] {
     let mut m = [0u8; 180];
@@ -13,16 +29,8 @@ pub fn plain(id: u64, number: u8) -> [u8; 180] {
     m[55] = 0x42;
     m[56] = 64;
     m[76] = number;
-    m[92] = low(id);
-    m[93] = low(id >> 8);
-    m[94] = low(id >> 16);
-    m[95] = low(id >> 24);
-    m[96] = low(id >> 32);
-    m[97] = low(id >> 40);
-    m[98] = low(id >> 48);
-    m[99] = low(id >> 56);
     m[179] = number;
-    m
+    with_id(m, 92, id)
 }
 
 // Two headers: the second is related, and its session id is all ones, which is not compared.
@@ -36,15 +44,7 @@ pub fn compounded(id: u64, number: u8) -> [u8; 180] {
     m[120] = 64;
     m[132] = 4;
     m[140] = number;
-    m[156] = 0xFF;
-    m[157] = 0xFF;
-    m[158] = 0xFF;
-    m[159] = 0xFF;
-    m[160] = 0xFF;
-    m[161] = 0xFF;
-    m[162] = 0xFF;
-    m[163] = 0xFF;
-    m
+    with_id(m, 156, 0xFFFFFFFFFFFFFFFF)
 }
 
 // The message with a transform header that names the session of the id, sealed by nobody.
@@ -56,15 +56,7 @@ pub fn addressed(from: [u8; 180], id: u64) -> [u8; 180] {
     m[3] = 0x42;
     m[36] = 128;
     m[42] = 1;
-    m[44] = low(id);
-    m[45] = low(id >> 8);
-    m[46] = low(id >> 16);
-    m[47] = low(id >> 24);
-    m[48] = low(id >> 32);
-    m[49] = low(id >> 40);
-    m[50] = low(id >> 48);
-    m[51] = low(id >> 56);
-    m
+    with_id(m, 44, id)
 }
 
 // The message with one bit changed.
@@ -92,4 +84,14 @@ pub fn same(a: &[u8], b: &[u8], from: usize, to: usize) -> bool {
         i += 1;
     }
     true
+}
+
+// Whether two messages are the same.
+pub fn equal(a: [u8; 180], b: [u8; 180]) -> bool {
+    same(&a, &b, 0, 180)
+}
+
+// Whether a message has the header of one, and the rest of another.
+pub fn joined(m: [u8; 180], header: [u8; 180], rest: [u8; 180]) -> bool {
+    same(&m, &header, 0, 52) & same(&m, &rest, 52, 180)
 }

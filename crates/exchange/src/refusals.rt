@@ -8,22 +8,30 @@ use session::Adding;
 use session::Connection;
 use session::Session;
 
+// The server opens the client's message with one bit changed.
+fn changed(what: &[u8], l: Login, t: [Session; 4], sealed: [u8; 180], at: usize) {
+    let other = message::damaged(sealed, at);
+    calls::open(what, t, login::server(l), other, message::plain(l.id, 6));
+}
+
 // 9: one bit of the tag, of the ciphertext or of the authenticated Reserved is another.
 pub fn damaged(l: Login, e: Ends) -> Ends {
     let m = message::plain(l.id, 6);
-    let s = login::server(l);
     let client = e.client;
     let server = e.server;
     let sent = calls::seal(b"client seals", client, login::client(l), l.id, m);
-    let sealed = sent.message;
-    let tag = message::damaged(sealed, 4);
-    calls::open(b"server opens, tag damaged", server, s, tag, m);
-    let body = message::damaged(sealed, 179);
-    calls::open(b"server opens, ciphertext damaged", server, s, body, m);
-    let reserved = message::damaged(sealed, 40);
-    calls::open(b"server opens, Reserved changed", server, s, reserved, m);
-    calls::open(b"server opens, undamaged", server, s, sealed, m);
     let after = sent.table;
+    let sealed = sent.message;
+    changed(b"server opens, tag damaged", l, server, sealed, 4);
+    changed(b"server opens, ciphertext damaged", l, server, sealed, 179);
+    changed(b"server opens, Reserved changed", l, server, sealed, 40);
+    calls::open(
+        b"server opens, undamaged",
+        server,
+        login::server(l),
+        sealed,
+        m,
+    );
     Ends {
         client: after,
         server: server,
@@ -73,47 +81,57 @@ fn bare(id: u64, guest: bool, anonymous: bool) -> Adding {
 }
 
 // A message of the id, sealed and opened at the client. Both are refused.
-fn refused_at_client(
+fn at_client(
     seals: &[u8],
     opens: &[u8],
     from: [Session; 4],
     c: Connection,
-    plain: [u8; 180],
     id: u64,
+    number: u8,
 ) -> [Session; 4] {
-    let sent = calls::seal(seals, from, c, id, plain);
+    let m = message::plain(id, number);
+    let sent = calls::seal(seals, from, c, id, m);
     let after = sent.table;
-    calls::open(opens, after, c, message::addressed(plain, id), plain);
+    calls::open(opens, after, c, message::addressed(m, id), m);
     after
 }
 
-// 8: the client has a guest's session, 2, and an anonymous one, 3.
-pub fn guest_and_anonymous(l: Login, e: Ends) -> Ends {
+// 8: the client has a guest's session, 2.
+pub fn guest(l: Login, e: Ends) -> Ends {
     let c = login::client(l);
     let client = e.client;
     let server = e.server;
     let t1 = login::client_adds(b"client adds 2, guest", l, client, bare(2, true, false));
-    let t2 = login::client_adds(b"client adds 3, anonymous", l, t1, bare(3, false, true));
-    let m2 = message::plain(2, 8);
-    let t3 = refused_at_client(
+    let t2 = at_client(
         b"client seals for 2",
         b"client opens a message for 2",
-        t2,
+        t1,
         c,
-        m2,
         2,
-    );
-    let m3 = message::plain(3, 8);
-    let t4 = refused_at_client(
-        b"client seals for 3",
-        b"client opens a message for 3",
-        t3,
-        c,
-        m3,
-        3,
+        8,
     );
     Ends {
-        client: t4,
+        client: t2,
+        server: server,
+    }
+}
+
+// 8: and an anonymous one, 3.
+pub fn anonymous(l: Login, e: Ends) -> Ends {
+    let c = login::client(l);
+    let client = e.client;
+    let server = e.server;
+    let t1 = login::client_adds(b"client adds 3, anonymous", l, client, bare(3, false, true));
+    let t2 = at_client(
+        b"client seals for 3",
+        b"client opens a message for 3",
+        t1,
+        c,
+        3,
+        8,
+    );
+    Ends {
+        client: t2,
         server: server,
     }
 }
@@ -129,23 +147,21 @@ pub fn constrained(l: Login, e: Ends) -> Ends {
     let c = constraint(login::client(l));
     let client = e.client;
     let server = e.server;
-    let m = message::plain(l.id, 9);
-    let t1 = refused_at_client(
+    let t1 = at_client(
         b"client seals, constrained",
         b"client opens, constrained",
         client,
         c,
-        m,
         l.id,
+        9,
     );
-    let m2 = message::plain(2, 9);
-    let t2 = refused_at_client(
+    let t2 = at_client(
         b"client seals for 2, constrained",
         b"client opens a message for 2, constrained",
         t1,
         c,
-        m2,
         2,
+        9,
     );
     Ends {
         client: t2,
@@ -158,14 +174,13 @@ pub fn unknown_id(l: Login, e: Ends) -> Ends {
     let c = login::client(l);
     let client = e.client;
     let server = e.server;
-    let m = message::plain(9, 10);
-    let t1 = refused_at_client(
+    let t1 = at_client(
         b"client seals for 9",
         b"client opens a message for 9",
         client,
         c,
-        m,
         9,
+        10,
     );
     let t2 = calls::remove(b"client removes 9", t1, 9);
     Ends {
@@ -185,14 +200,13 @@ pub fn encryption_off(l: Login, e: Ends) -> Ends {
     let c = unencrypted(login::client(l));
     let client = e.client;
     let server = e.server;
-    let m = message::plain(l.id, 11);
-    let after = refused_at_client(
+    let after = at_client(
         b"client seals, encryption off",
         b"client opens, encryption off",
         client,
         c,
-        m,
         l.id,
+        11,
     );
     Ends {
         client: after,

@@ -1,4 +1,5 @@
 // The lines that are written.
+use crate::message;
 use compound::Outcome;
 use libc::STDOUT_FILENO;
 use preauth::Folding;
@@ -77,25 +78,25 @@ fn unchanged(same: bool) {
 }
 
 // A seal: the record's counter after it, and the sealed message or that it is as it was.
-pub fn sealed(what: &[u8], out: Outcome, counter: u64, message: [u8; 180], same: bool) {
+pub fn sealed(what: &[u8], out: Outcome, counter: u64, m: [u8; 180], plain: [u8; 180]) {
     outcome(what, out);
     say(b", counter ");
     text::show_decimal(counter);
     if compound::refused(out) {
-        unchanged(same);
+        unchanged(message::equal(m, plain));
     } else {
         say(b", ");
-        text::show(&message);
+        text::show(&m);
     }
     text::end_line();
 }
 
 // An opening: whether header and plaintext are as sealed, or the message is as it was.
-pub fn opened(what: &[u8], out: Outcome, same: bool, plain: bool) {
+pub fn opened(what: &[u8], out: Outcome, m: [u8; 180], sealed: [u8; 180], plain: [u8; 180]) {
     outcome(what, out);
     if compound::refused(out) {
-        unchanged(same);
-    } else if plain {
+        unchanged(message::equal(m, sealed));
+    } else if message::joined(m, sealed, plain) {
         say(b", bytes as sealed");
     } else {
         say(b", OTHER BYTES");

@@ -89,26 +89,47 @@ pub fn published_messages_open(line: &[u8], l: Login, e: Ends) {
     );
 }
 
-// Of three messages the second is lost, the third arrives before the first, and then once more.
-pub fn repeated_reordered_and_lost(l: Login, e: Ends) -> Ends {
-    let c = login::client(l);
+// The third of three messages arrives before the first, and then once more. The second is lost.
+fn out_of_order(l: Login, t: [Session; 4], first: [u8; 180], third: [u8; 180]) {
     let s = login::server(l);
     let m3 = message::plain(l.id, 3);
-    let m4 = message::plain(l.id, 4);
     let m5 = message::plain(l.id, 5);
+    calls::open(b"server opens the third", t, s, third, m5);
+    calls::open(b"server opens the first", t, s, first, m3);
+    calls::open(b"server opens the third again", t, s, third, m5);
+}
+
+pub fn repeated_reordered_and_lost(l: Login, e: Ends) -> Ends {
+    let c = login::client(l);
     let client = e.client;
     let server = e.server;
-    let first = calls::seal(b"client seals the first", client, c, l.id, m3);
+    let first = calls::seal(
+        b"client seals the first",
+        client,
+        c,
+        l.id,
+        message::plain(l.id, 3),
+    );
     let t1 = first.table;
-    let second = calls::seal(b"client seals the second", t1, c, l.id, m4);
+    let second = calls::seal(
+        b"client seals the second",
+        t1,
+        c,
+        l.id,
+        message::plain(l.id, 4),
+    );
     let t2 = second.table;
-    let third = calls::seal(b"client seals the third", t2, c, l.id, m5);
+    let third = calls::seal(
+        b"client seals the third",
+        t2,
+        c,
+        l.id,
+        message::plain(l.id, 5),
+    );
     let t3 = third.table;
     let b1 = first.message;
     let b3 = third.message;
-    calls::open(b"server opens the third", server, s, b3, m5);
-    calls::open(b"server opens the first", server, s, b1, m3);
-    calls::open(b"server opens the third again", server, s, b3, m5);
+    out_of_order(l, server, b1, b3);
     Ends {
         client: t3,
         server: server,
