@@ -11,6 +11,7 @@ mod traffic;
 
 use login::Ends;
 use login::Login;
+use session::Session;
 
 // Messages that go across.
 fn messages(line: &[u8], l: Login, from: Ends) -> Ends {
@@ -20,23 +21,15 @@ fn messages(line: &[u8], l: Login, from: Ends) -> Ends {
     traffic::repeated_reordered_and_lost(l, e2)
 }
 
-// Messages that are refused.
-fn refused(l: Login, from: Ends) -> Ends {
-    let e1 = refusals::damaged(l, from);
-    let e2 = refusals::own_direction(l, e1);
-    let e3 = refusals::guest(l, e2);
-    let e4 = refusals::anonymous(l, e3);
-    let e5 = refusals::constrained(l, e4);
-    let e6 = refusals::unknown_id(l, e5);
-    refusals::encryption_off(l, e6)
-}
-
-// The table: adding that is refused, no room, removing and adding again.
-fn records(l: Login, from: Ends) -> Ends {
-    let e1 = table::adding_refused(l, from);
-    let e2 = table::full(l, e1);
-    let e3 = table::removed(l, e2);
-    table::added_again(l, e3)
+// What the client's table refuses.
+fn refused(l: Login, from: [Session; 4]) -> [Session; 4] {
+    let t1 = refusals::guest(l, from);
+    let t2 = refusals::anonymous(l, t1);
+    let t3 = refusals::constrained(l, t2);
+    let t4 = refusals::unknown_id(l, t3);
+    let t5 = refusals::encryption_off(l, t4);
+    let t6 = table::adding_refused(l, t5);
+    table::full(l, t6)
 }
 
 // One published session.
@@ -44,8 +37,13 @@ fn run(line: &[u8]) {
     let l = login::both_fold(line);
     let e1 = login::both_add(l);
     let e2 = messages(line, l, e1);
-    let e3 = refused(l, e2);
-    records(l, e3);
+    let e3 = refusals::damaged(l, e2);
+    let e4 = refusals::own_direction(l, e3);
+    let client = e4.client;
+    let server = e4.server;
+    let after = refused(l, client);
+    let e5 = table::removed(l, after, server);
+    table::added_again(l, e5);
 }
 
 fn main() {

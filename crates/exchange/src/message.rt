@@ -68,7 +68,7 @@ pub fn damaged(from: [u8; 180], at: usize) -> [u8; 180] {
     m
 }
 
-// Whether the bytes of a place and after it, before another, are the same.
+// Whether the bytes from one place up to another are the same.
 pub fn same(a: &[u8], b: &[u8], from: usize, to: usize) -> bool {
     let mut i = from;
     while i < to {

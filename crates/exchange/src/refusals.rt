@@ -97,43 +97,31 @@ fn at_client(
 }
 
 // 8: the client has a guest's session, 2.
-pub fn guest(l: Login, e: Ends) -> Ends {
+pub fn guest(l: Login, from: [Session; 4]) -> [Session; 4] {
     let c = login::client(l);
-    let client = e.client;
-    let server = e.server;
-    let t1 = login::client_adds(b"client adds 2, guest", l, client, bare(2, true, false));
-    let t2 = at_client(
+    let t1 = login::client_adds(b"client adds 2, guest", l, from, bare(2, true, false));
+    at_client(
         b"client seals for 2",
         b"client opens a message for 2",
         t1,
         c,
         2,
         8,
-    );
-    Ends {
-        client: t2,
-        server: server,
-    }
+    )
 }
 
 // 8: and an anonymous one, 3.
-pub fn anonymous(l: Login, e: Ends) -> Ends {
+pub fn anonymous(l: Login, from: [Session; 4]) -> [Session; 4] {
     let c = login::client(l);
-    let client = e.client;
-    let server = e.server;
-    let t1 = login::client_adds(b"client adds 3, anonymous", l, client, bare(3, false, true));
-    let t2 = at_client(
+    let t1 = login::client_adds(b"client adds 3, anonymous", l, from, bare(3, false, true));
+    at_client(
         b"client seals for 3",
         b"client opens a message for 3",
         t1,
         c,
         3,
         8,
-    );
-    Ends {
-        client: t2,
-        server: server,
-    }
+    )
 }
 
 fn constraint(from: Connection) -> Connection {
@@ -143,50 +131,38 @@ fn constraint(from: Connection) -> Connection {
 }
 
 // 7: the client's connection is constrained. It comes before 8.
-pub fn constrained(l: Login, e: Ends) -> Ends {
+pub fn constrained(l: Login, from: [Session; 4]) -> [Session; 4] {
     let c = constraint(login::client(l));
-    let client = e.client;
-    let server = e.server;
     let t1 = at_client(
         b"client seals, constrained",
         b"client opens, constrained",
-        client,
+        from,
         c,
         l.id,
         9,
     );
-    let t2 = at_client(
+    at_client(
         b"client seals for 2, constrained",
         b"client opens a message for 2, constrained",
         t1,
         c,
         2,
         9,
-    );
-    Ends {
-        client: t2,
-        server: server,
-    }
+    )
 }
 
 // 6: no session has the id 9.
-pub fn unknown_id(l: Login, e: Ends) -> Ends {
+pub fn unknown_id(l: Login, from: [Session; 4]) -> [Session; 4] {
     let c = login::client(l);
-    let client = e.client;
-    let server = e.server;
     let t1 = at_client(
         b"client seals for 9",
         b"client opens a message for 9",
-        client,
+        from,
         c,
         9,
         10,
     );
-    let t2 = calls::remove(b"client removes 9", t1, 9);
-    Ends {
-        client: t2,
-        server: server,
-    }
+    calls::remove(b"client removes 9", t1, 9)
 }
 
 fn unencrypted(from: Connection) -> Connection {
@@ -196,20 +172,14 @@ fn unencrypted(from: Connection) -> Connection {
 }
 
 // 1: the client's connection does not encrypt.
-pub fn encryption_off(l: Login, e: Ends) -> Ends {
+pub fn encryption_off(l: Login, from: [Session; 4]) -> [Session; 4] {
     let c = unencrypted(login::client(l));
-    let client = e.client;
-    let server = e.server;
-    let after = at_client(
+    at_client(
         b"client seals, encryption off",
         b"client opens, encryption off",
-        client,
+        from,
         c,
         l.id,
         11,
-    );
-    Ends {
-        client: after,
-        server: server,
-    }
+    )
 }

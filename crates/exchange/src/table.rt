@@ -35,46 +35,32 @@ fn no_key(what: &[u8], l: Login, from: [Session; 4], a: Adding) -> [Session; 4] 
 }
 
 // 40, 18, 19, 20, 21: each comes before those that stand after it.
-pub fn adding_refused(l: Login, e: Ends) -> Ends {
-    let client = e.client;
-    let server = e.server;
+pub fn adding_refused(l: Login, from: [Session; 4]) -> [Session; 4] {
     let zero = login::adding(0);
     let old = other_dialect(zero);
     let t1 = short_chain_no_key(
         b"client adds 0, chain short, dialect 2.1, no key",
-        client,
+        from,
         old,
     );
     let t2 = no_key(b"client adds 0, dialect 2.1, no key", l, t1, old);
     let t3 = no_key(b"client adds 0, no key", l, t2, zero);
     let t4 = login::client_adds(b"client adds 0", l, t3, zero);
-    let t5 = login::client_adds(b"client adds the session again", l, t4, login::adding(l.id));
-    Ends {
-        client: t5,
-        server: server,
-    }
+    login::client_adds(b"client adds the session again", l, t4, login::adding(l.id))
 }
 
 // 22: four records are used. 21 comes before it.
-pub fn full(l: Login, e: Ends) -> Ends {
-    let client = e.client;
-    let server = e.server;
-    let t1 = login::client_adds(b"client adds 4", l, client, login::adding(4));
+pub fn full(l: Login, from: [Session; 4]) -> [Session; 4] {
+    let t1 = login::client_adds(b"client adds 4", l, from, login::adding(4));
     let t2 = login::client_adds(b"client adds 5, no free record", l, t1, login::adding(5));
-    let t3 = login::client_adds(b"client adds 4, no free record", l, t2, login::adding(4));
-    Ends {
-        client: t3,
-        server: server,
-    }
+    login::client_adds(b"client adds 4, no free record", l, t2, login::adding(4))
 }
 
 // 6: the client has taken the session out.
-pub fn removed(l: Login, e: Ends) -> Ends {
+pub fn removed(l: Login, client: [Session; 4], server: [Session; 4]) -> Ends {
     let c = login::client(l);
     let s = login::server(l);
     let m = message::plain(l.id, 12);
-    let client = e.client;
-    let server = e.server;
     counter(client, l.id);
     let t1 = calls::remove(b"client removes the session", client, l.id);
     let t2 = calls::remove(b"client removes it again", t1, l.id);
