@@ -37,6 +37,7 @@ $(MUTANTS): $(BUILD)/mutants/%: $(BUILD)/plain/%.o $(SHARED:%=$(BUILD)/plain/%.o
 outside: setup-test
 	@$(MAKE) --no-print-directory $(PROGRAMS) $(MUTANTS) $(BUILD)/plain/capture
 	scripts/vectors --check
+	scripts/exchange --check
 	scripts/docs-check
 	scripts/crates-picture --check
 	scripts/archive-symbols $(PRIMITIVES)
