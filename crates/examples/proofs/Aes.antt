@@ -1,10 +1,10 @@
--- The specification, computed on the example of FIPS 197, appendix B. It takes some seconds, so that the other vectors are left to a program.
+-- The specification, computed on the example of FIPS 197, appendix B. The other vectors are left to a program.
 use mathlib.Core.Path.{_≡_, refl}
 use mathlib.Core.List.{List, [], _∷_}
 use Prim.Native.Nat.{ℕ}
 use Rattle.aes.specs.Field.{sbox, affine, inverse, evenPowers, mul, products, xtimes, rotated}
 use Rattle.aes.specs.Cipher.{cipher, rounds, addRoundKey, mixColumns, mixed, shiftRows, subBytes, state}
 use Rattle.aes.specs.KeyExpansion.{keyExpansion, roundKeys, words, keyWords, temp, rcon, xpower, wordOf, xorWord, subWord, rotWord}
 
 abbrev key : List ℕ
 key = 0x2b ∷ 0x7e ∷ 0x15 ∷ 0x16 ∷ 0x28 ∷ 0xae ∷ 0xd2 ∷ 0xa6 ∷ 0xab ∷ 0xf7 ∷ 0x15 ∷ 0x88 ∷ 0x09 ∷ 0xcf ∷ 0x4f ∷ 0x3c ∷ []
