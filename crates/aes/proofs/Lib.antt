@@ -3,4 +3,3 @@ pub mod TableLaws
 pub mod CipherLaws
 pub mod ExpansionLaws
 pub mod Lengths
-pub mod Vectors

@@ -1,4 +1,3 @@
 pub mod GcmLaws
 pub mod InPlace
 pub mod HashParts
-pub mod Vectors

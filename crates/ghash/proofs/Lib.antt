@@ -2,4 +2,3 @@ pub mod FieldLaws
 pub mod WordLaws
 pub mod ByteLaws
 pub mod GhashLaws
-pub mod Vectors

@@ -1,15 +1,10 @@
--- The code's structs as values of the definitions, for its contracts.
+-- The code's running state as a value of the definitions, for its contracts.
 -- Assumes nothing.
 use mathlib.Core.List.{List}
 use Prim.Native.Nat.{ℕ}
-use Rattle.sha2.specs.Sha2 as sha2
 use Rattle.sha2.specs.Running as running
 use Rattle.sha2.specs.Sha256.{sha256}
-use Rattle.sha256.specs.declared.rounds.Working.{Working}
 use Rattle.sha256.specs.declared.Sha256.{Sha256}
-
-abbrev pub of : Working → sha2.Working
-of v = record { a = v .a; b = v .b; c = v .c; d = v .d; e = v .e; f = v .f; g = v .g; h = v .h }
 
 -- s has taken in the bytes m
 abbrev pub Holds : Sha256 → List ℕ → Type 0

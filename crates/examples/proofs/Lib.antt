@@ -1,0 +1,4 @@
+pub mod Aes
+pub mod Ghash
+pub mod Gcm
+pub mod Ccm

@@ -1,0 +1,1 @@
+// No code: published examples, computed on the definitions. They stand apart so that no edit of the code computes them again.

@@ -1,0 +1,13 @@
+-- Right because the two tables are the same, entry by entry.
+-- Assumes nothing.
+use mathlib.Core.Path.{refl}
+use Rattle.sha2.specs.Sha512.{initial512}
+use Rattle.sha512_compression.proofs.constants.initial_hash_value.Statement.{statement}
+use Rattle.sha512_compression.proofs.constants.initial_hash_value.Tie as tie
+
+returns : tie.Need-returns
+unfolding initial512
+returns c = refl
+
+pub initial-hash-value-spec : {M : Type 1} → statement M
+initial-hash-value-spec = tie.close (tie.spec returns)
