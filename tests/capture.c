@@ -19,7 +19,7 @@
 enum direction { REQUEST, RESPONSE };
 enum { SETUP_MESSAGES = 6, SEGMENT = 1400, LONGEST = 70000 };
 
-struct session {
+struct conversation {
     uint16_t dialect, cipher, port;
     uint64_t id;
     const struct fold *setup; /* its six messages */
@@ -49,7 +49,7 @@ static void write_file_header(void)
     fwrite(header, 1, sizeof header, pcap);
 }
 
-static void write_segment(struct session *s, enum direction d, const uint8_t *bytes, size_t n)
+static void write_segment(struct conversation *s, enum direction d, const uint8_t *bytes, size_t n)
 {
     static uint32_t seconds;
     uint8_t record[16 + 40] = {0}, *ip = record + 16, *tcp = ip + 20;
@@ -74,7 +74,7 @@ static void write_segment(struct session *s, enum direction d, const uint8_t *by
     s->sequence[d] += (uint32_t)n;
 }
 
-static void send(struct session *s, enum direction d, const uint8_t *message, size_t n)
+static void send(struct conversation *s, enum direction d, const uint8_t *message, size_t n)
 {
     static uint8_t stream[4 + LONGEST];
     put_big_endian(stream, n, 4);
@@ -96,7 +96,7 @@ static void list_inner(const uint8_t *inner, size_t n)
     fprintf(list, "\n");
 }
 
-static void list_session(const struct session *s)
+static void list_session(const struct conversation *s)
 {
     uint8_t id[8];
     put(id, s->id, 8);
@@ -109,7 +109,7 @@ static void list_session(const struct session *s)
 
 /* ---- a session: its setup, sent and folded; then sealed messages */
 
-static void set_up(struct session *s)
+static void set_up(struct conversation *s)
 {
     uint8_t message[1000];
     uint32_t folded;
@@ -126,7 +126,7 @@ static void set_up(struct session *s)
     list_session(s);
 }
 
-static void seal_and_send(struct session *s, enum direction d, const uint8_t *inner, size_t n)
+static void seal_and_send(struct conversation *s, enum direction d, const uint8_t *inner, size_t n)
 {
     static uint8_t message[LONGEST];
     uint64_t headers;
@@ -139,7 +139,7 @@ static void seal_and_send(struct session *s, enum direction d, const uint8_t *in
 }
 
 /* An ECHO (Command 13) of this length, whose data is a marker of its own. */
-static size_t put_echo(uint8_t *at, const struct session *s, enum direction d, uint64_t message_id, size_t n)
+static size_t put_echo(uint8_t *at, const struct conversation *s, enum direction d, uint64_t message_id, size_t n)
 {
     fill(at, n);
     put_header(at, d == RESPONSE ? 1 : 0, 0, s->id);
@@ -150,7 +150,7 @@ static size_t put_echo(uint8_t *at, const struct session *s, enum direction d, u
     return n;
 }
 
-static void talk(struct session *s)
+static void talk(struct conversation *s)
 {
     static uint8_t inner[LONGEST];
     for (size_t i = 0; i < 40; i++) {
@@ -167,7 +167,7 @@ static void talk(struct session *s)
 }
 
 /* The published messages of this session: tshark must read them too, or the capture is at fault. */
-static void send_published(struct session *s)
+static void send_published(struct conversation *s)
 {
     for (size_t i = 0; i < COUNT(transforms); i++) {
         if (transforms[i].id != s->id) continue;
@@ -179,7 +179,7 @@ static void send_published(struct session *s)
 int main(int argc, char **argv)
 {
     const struct bytes *gcm = &derivations[0].material, *ccm = &derivations[1].material;
-    struct session sessions[] = {
+    struct conversation sessions[] = {
         {.dialect = 0x0311, .cipher = 2, .port = 50001, .id = transforms[0].id, .setup = folds, .material = gcm},
         {.dialect = 0x0311, .cipher = 1, .port = 50002, .id = transforms[4].id, .setup = folds + SETUP_MESSAGES, .material = ccm},
         {.dialect = 0x0300, .cipher = 1, .port = 50003, .id = 0x0300000000000003, .setup = folds, .material = gcm},
