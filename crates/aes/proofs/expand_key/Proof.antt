@@ -5,36 +5,6 @@ use Rattle.aes.proofs.ExpansionLaws.{expanded, link, chain-end}
 use Rattle.aes.proofs.expand_key.Tie as tie
 use Rattle.aes.proofs.expand_key.Statement.{statement}
 
-sbox-table-requires : tie.Need-sbox-table-requires
-sbox-table-requires c κs = search needs
-
-next-key-requires : tie.Need-next-key-requires
-next-key-requires c κs = search needs
-
-next-key-requires-2 : tie.Need-next-key-requires-2
-next-key-requires-2 c κs = search needs
-
-next-key-requires-3 : tie.Need-next-key-requires-3
-next-key-requires-3 c κs = search needs
-
-next-key-requires-4 : tie.Need-next-key-requires-4
-next-key-requires-4 c κs = search needs
-
-next-key-requires-5 : tie.Need-next-key-requires-5
-next-key-requires-5 c κs = search needs
-
-next-key-requires-6 : tie.Need-next-key-requires-6
-next-key-requires-6 c κs = search needs
-
-next-key-requires-7 : tie.Need-next-key-requires-7
-next-key-requires-7 c κs = search needs
-
-next-key-requires-8 : tie.Need-next-key-requires-8
-next-key-requires-8 c κs = search needs
-
-next-key-requires-9 : tie.Need-next-key-requires-9
-next-key-requires-9 c κs = search needs
-
 next-key-requires-10 : tie.Need-next-key-requires-10
 next-key-requires-10 c κs = c .before .before .before .before .before .before .before .before .before .before .before .before .before .before .before .before .before .before .before .sbox-table .ensures
 
@@ -67,15 +37,15 @@ pub expand-key-spec : {M : Type 1} → statement M
 expand-key-spec =
     tie.close
     (tie.spec
-    sbox-table-requires
-    next-key-requires
-    next-key-requires-2
-    next-key-requires-3
-    next-key-requires-4
-    next-key-requires-5
-    next-key-requires-6
-    next-key-requires-7
-    next-key-requires-8
-    next-key-requires-9
+    (λ c κs. search needs)
+    (λ c κs. search needs)
+    (λ c κs. search needs)
+    (λ c κs. search needs)
+    (λ c κs. search needs)
+    (λ c κs. search needs)
+    (λ c κs. search needs)
+    (λ c κs. search needs)
+    (λ c κs. search needs)
+    (λ c κs. search needs)
     next-key-requires-10
     returns)

@@ -13,45 +13,6 @@ use borrow.Author.Needs.{needs}
 use Rattle.ccm.proofs.tag_of.Statement.{statement}
 use Rattle.ccm.proofs.tag_of.Tie as tie
 
-flags-and-nonce-requires : tie.Need-flags-and-nonce-requires
-flags-and-nonce-requires c κs = search needs
-
-cast-counter-block : tie.Need-cast-counter-block
-cast-counter-block c = search needs
-
-counter-block-requires : tie.Need-counter-block-requires
-counter-block-requires c κs = search needs
-
-with-length-requires : tie.Need-with-length-requires
-with-length-requires c κs = search needs
-
-slice-aggregate-chain : tie.Need-slice-aggregate-chain
-slice-aggregate-chain c = search needs
-
-chain-requires : tie.Need-chain-requires
-chain-requires c κs = search needs
-
-slice-aggregate-chain-2 : tie.Need-slice-aggregate-chain-2
-slice-aggregate-chain-2 c = search needs
-
-chain-requires-2 : tie.Need-chain-requires-2
-chain-requires-2 c κs = search needs
-
-chain-requires-3 : tie.Need-chain-requires-3
-chain-requires-3 c κs = search needs
-
-flags-and-nonce-requires-2 : tie.Need-flags-and-nonce-requires-2
-flags-and-nonce-requires-2 c κs = search needs
-
-counter-block-requires-2 : tie.Need-counter-block-requires-2
-counter-block-requires-2 c κs = search needs
-
-encrypt-with-requires : tie.Need-encrypt-with-requires
-encrypt-with-requires c κs = search needs
-
-xor-16-requires : tie.Need-xor-16-requires
-xor-16-requires c κs = search needs
-
 returns : tie.Need-returns
 returns c =
     let s = c .before .encrypt-with in
@@ -77,17 +38,17 @@ pub tag-of-spec : {M : Type 1} → statement M
 tag-of-spec =
     tie.close
     (tie.spec
-    flags-and-nonce-requires
-    cast-counter-block
-    counter-block-requires
-    with-length-requires
-    slice-aggregate-chain
-    chain-requires
-    slice-aggregate-chain-2
-    chain-requires-2
-    chain-requires-3
-    flags-and-nonce-requires-2
-    counter-block-requires-2
-    encrypt-with-requires
-    xor-16-requires
+    (λ c κs. search needs)
+    (λ c. search needs)
+    (λ c κs. search needs)
+    (λ c κs. search needs)
+    (λ c. search needs)
+    (λ c κs. search needs)
+    (λ c. search needs)
+    (λ c κs. search needs)
+    (λ c κs. search needs)
+    (λ c κs. search needs)
+    (λ c κs. search needs)
+    (λ c κs. search needs)
+    (λ c κs. search needs)
     returns)

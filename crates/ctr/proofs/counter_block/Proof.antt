@@ -10,27 +10,6 @@ use borrow.Author.Needs.{needs}
 use Rattle.ctr.proofs.counter_block.Statement.{statement}
 use Rattle.ctr.proofs.counter_block.Tie as tie
 
-u32-bytes-requires : tie.Need-u32-bytes-requires
-u32-bytes-requires c κs = search needs
-
-slice-aggregate-copy : tie.Need-slice-aggregate-copy
-slice-aggregate-copy c = search needs
-
-slice-aggregate-copy-2 : tie.Need-slice-aggregate-copy-2
-slice-aggregate-copy-2 c = search needs
-
-copy-requires : tie.Need-copy-requires
-copy-requires c κs = search needs
-
-slice-aggregate-copy-3 : tie.Need-slice-aggregate-copy-3
-slice-aggregate-copy-3 c = search needs
-
-slice-aggregate-copy-4 : tie.Need-slice-aggregate-copy-4
-slice-aggregate-copy-4 c = search needs
-
-copy-requires-2 : tie.Need-copy-requires-2
-copy-requires-2 c κs = search needs
-
 returns : tie.Need-returns
 returns c =
     let p = c .before .before .before .before .before .before .before .before .before .args .t1 in
@@ -46,11 +25,11 @@ pub counter-block-spec : {M : Type 1} → statement M
 counter-block-spec =
     tie.close
     (tie.spec
-    u32-bytes-requires
-    slice-aggregate-copy
-    slice-aggregate-copy-2
-    copy-requires
-    slice-aggregate-copy-3
-    slice-aggregate-copy-4
-    copy-requires-2
+    (λ c κs. search needs)
+    (λ c. search needs)
+    (λ c. search needs)
+    (λ c κs. search needs)
+    (λ c. search needs)
+    (λ c. search needs)
+    (λ c κs. search needs)
     returns)

@@ -6,18 +6,6 @@ use Rattle.gcm.proofs.InPlace.{sealed}
 use Rattle.gcm.proofs.seal.Statement.{statement}
 use Rattle.gcm.proofs.seal.Tie as tie
 
-table-requires : tie.Need-table-requires
-table-requires c κs = search needs
-
-encrypt-with-requires : tie.Need-encrypt-with-requires
-encrypt-with-requires c κs = search needs
-
-tag-with-requires : tie.Need-tag-with-requires
-tag-with-requires c κs = search needs
-
-same-length : tie.Need-same-length
-same-length c = search needs
-
 returns : tie.Need-returns
 returns c =
     let e = c .before .before .before .before .before in
@@ -29,8 +17,8 @@ pub seal-spec : {M : Type 1} → statement M
 seal-spec =
     tie.close
     (tie.spec
-    table-requires
-    encrypt-with-requires
-    tag-with-requires
-    same-length
+    (λ c κs. search needs)
+    (λ c κs. search needs)
+    (λ c κs. search needs)
+    (λ c. search needs)
     returns)

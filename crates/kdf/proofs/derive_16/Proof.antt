@@ -12,15 +12,6 @@ use borrow.Author.Needs.{needs}
 use Rattle.kdf.proofs.derive_16.Statement.{statement}
 use Rattle.kdf.proofs.derive_16.Tie as tie
 
-first-block-requires : tie.Need-first-block-requires
-first-block-requires c κs = search needs
-
-slice-aggregate-copy : tie.Need-slice-aggregate-copy
-slice-aggregate-copy c = search needs
-
-array-share-prefix-k : tie.Need-array-share-prefix-k
-array-share-prefix-k c = search needs
-
 slice-aggregate-copy-2 : tie.Need-slice-aggregate-copy-2
 slice-aggregate-copy-2 c = sym (length-take-le 16 (c .before .before .first-block .result) (omega (arith, c .before .before .first-block .ok .1 .0 .1)))
 
@@ -39,9 +30,9 @@ pub derive-16-spec : {M : Type 1} → statement M
 derive-16-spec =
     tie.close
     (tie.spec
-    first-block-requires
-    slice-aggregate-copy
-    array-share-prefix-k
+    (λ c κs. search needs)
+    (λ c. search needs)
+    (λ c. search needs)
     slice-aggregate-copy-2
     copy-requires
     returns)

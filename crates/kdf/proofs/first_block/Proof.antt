@@ -14,41 +14,8 @@ use Rattle.kdf.proofs.first_block.Tie as tie
 joined : (counter label context length : List ℕ) → (((counter ++ label) ++ (0 ∷ [])) ++ context) ++ length ≡ counter ++ (label ++ ((0 ∷ context) ++ length))
 joined counter label context length = simp append-assoc
 
-u32-bytes-requires : tie.Need-u32-bytes-requires
-u32-bytes-requires c κs = search needs
-
-u32-bytes-requires-2 : tie.Need-u32-bytes-requires-2
-u32-bytes-requires-2 c κs = search needs
-
-new-requires : tie.Need-new-requires
-new-requires c κs = search needs
-
-slice-aggregate-update : tie.Need-slice-aggregate-update
-slice-aggregate-update c = search needs
-
-update-requires : tie.Need-update-requires
-update-requires c κs = search needs
-
-update-requires-2 : tie.Need-update-requires-2
-update-requires-2 c κs = search needs
-
-slice-aggregate-update-2 : tie.Need-slice-aggregate-update-2
-slice-aggregate-update-2 c = search needs
-
-update-requires-3 : tie.Need-update-requires-3
-update-requires-3 c κs = search needs
-
-update-requires-4 : tie.Need-update-requires-4
-update-requires-4 c κs = search needs
-
 slice-aggregate-update-3 : tie.Need-slice-aggregate-update-3
 slice-aggregate-update-3 c = sym (c .before .before .before .before .before .before .before .before .u32-bytes2 .ok .1 .0 .1)
-
-update-requires-5 : tie.Need-update-requires-5
-update-requires-5 c κs = search needs
-
-finish-requires : tie.Need-finish-requires
-finish-requires c κs = search needs
 
 returns : tie.Need-returns
 unfolding fixedInput block
@@ -66,16 +33,16 @@ pub first-block-spec : {M : Type 1} → statement M
 first-block-spec =
     tie.close
     (tie.spec
-    u32-bytes-requires
-    u32-bytes-requires-2
-    new-requires
-    slice-aggregate-update
-    update-requires
-    update-requires-2
-    slice-aggregate-update-2
-    update-requires-3
-    update-requires-4
+    (λ c κs. search needs)
+    (λ c κs. search needs)
+    (λ c κs. search needs)
+    (λ c. search needs)
+    (λ c κs. search needs)
+    (λ c κs. search needs)
+    (λ c. search needs)
+    (λ c κs. search needs)
+    (λ c κs. search needs)
     slice-aggregate-update-3
-    update-requires-5
-    finish-requires
+    (λ c κs. search needs)
+    (λ c κs. search needs)
     returns)

@@ -12,9 +12,6 @@ use Rattle.preauth.proofs.fold_if.Tie as tie
 returns : tie.Need-returns
 returns c = λ kind agrees. refused-40 kind (c .before .before .before .args .chain .now) (c .before .before .before .args .message .now) (c .if1 .taken)
 
-admits-requires : tie.Need-admits-requires
-admits-requires c κs = search needs
-
 returns-2 : tie.Need-returns-2
 returns-2 c =
     let a = c .before .before .before .before .before .args in
@@ -35,12 +32,6 @@ next-value-requires c κs =
 slice-aggregate-copy : tie.Need-slice-aggregate-copy
 slice-aggregate-copy c = search needs
 
-copy-requires : tie.Need-copy-requires
-copy-requires c κs = search needs
-
-same-length : tie.Need-same-length
-same-length c = search needs
-
 returns-4 : tie.Need-returns-4
 returns-4 c =
     let past = c .before .before .before .before .before .before .before in
@@ -56,11 +47,11 @@ fold-if-spec =
     tie.close
     (tie.spec
     returns
-    admits-requires
+    (λ c κs. search needs)
     returns-2
     returns-3
     next-value-requires
     slice-aggregate-copy
-    copy-requires
-    same-length
+    (λ c κs. search needs)
+    (λ c. search needs)
     returns-4)

@@ -13,32 +13,8 @@ use borrow.Author.Needs.{needs}
 use Rattle.session.proofs.open_record.Statement.{statement}
 use Rattle.session.proofs.open_record.Tie as tie
 
-open-number-requires : tie.Need-open-number-requires
-open-number-requires c κs = search needs
-
-same-length : tie.Need-same-length
-same-length c = search needs
-
 returns : tie.Need-returns
 returns c = let a = c .before .before .before .before .args in open-refused (connectionOf (a .c)) (sessionOf (a .s)) (a .message .now) _ (c .before .open-number .ensures) (c .if1 .taken)
-
-session-id-requires : tie.Need-session-id-requires
-session-id-requires c κs = search needs
-
-opening-key-requires : tie.Need-opening-key-requires
-opening-key-requires c κs = search needs
-
-switch-requires : tie.Need-switch-requires
-switch-requires c κs = search needs
-
-slice-aggregate-open-under : tie.Need-slice-aggregate-open-under
-slice-aggregate-open-under c = search needs
-
-open-under-requires : tie.Need-open-under-requires
-open-under-requires c κs = search needs
-
-same-length-2 : tie.Need-same-length-2
-same-length-2 c = search needs
 
 returns-2 : tie.Need-returns-2
 returns-2 c = let a = c .before .before .before .before .before .before .before .before .before .before .before .before .before .args in open-done (connectionOf (a .c)) (sessionOf (a .s)) (a .message .now) (passes (openTests (connectionOf (a .c) .protection) (a .message .now) ++ recordTests (connectionOf (a .c)) (sessionOf (a .s))) _ refl (c .before .before .before .before .before .before .before .before .before .before .open-number .ensures) (c .before .before .before .before .before .before .before .before .before .if1 .left)) (protectionOf (a .c .dialect) (c .before .before .before .before .before .switch .result) (a .c .cipher)) (same-protection (a .c .dialect) (c .before .before .before .before .before .switch .result) (a .c .cipher) (a .c .encryption) (c .before .before .before .before .before .switch .ensures)) _ (c .before .before .before .before .before .before .opening-key .ensures) (c .before .before .before .before .before .before .opening-key .ok .1 .0 .1) _ (c .before .before .before .before .before .before .before .session-id .ensures) _ _ (c .before .before .open-under .ensures)
@@ -47,13 +23,13 @@ pub open-record-spec : {M : Type 1} → statement M
 open-record-spec =
     tie.close
     (tie.spec
-    open-number-requires
-    same-length
+    (λ c κs. search needs)
+    (λ c. search needs)
     returns
-    session-id-requires
-    opening-key-requires
-    switch-requires
-    slice-aggregate-open-under
-    open-under-requires
-    same-length-2
+    (λ c κs. search needs)
+    (λ c κs. search needs)
+    (λ c κs. search needs)
+    (λ c. search needs)
+    (λ c κs. search needs)
+    (λ c. search needs)
     returns-2)

@@ -13,29 +13,8 @@ use borrow.Author.Needs.{needs}
 use Rattle.session.proofs.seal_record.Statement.{statement}
 use Rattle.session.proofs.seal_record.Tie as tie
 
-seal-number-requires : tie.Need-seal-number-requires
-seal-number-requires c κs = search needs
-
-same-length : tie.Need-same-length
-same-length c = search needs
-
 returns : tie.Need-returns
 returns c = let a = c .before .before .before .before .args in seal-refused (connectionOf (a .c)) (sessionOf (a .s)) (a .id) (a .message .now) _ (c .before .seal-number .ensures) (c .if1 .taken)
-
-sealing-key-requires : tie.Need-sealing-key-requires
-sealing-key-requires c κs = search needs
-
-switch-requires : tie.Need-switch-requires
-switch-requires c κs = search needs
-
-slice-aggregate-seal-under : tie.Need-slice-aggregate-seal-under
-slice-aggregate-seal-under c = search needs
-
-seal-under-requires : tie.Need-seal-under-requires
-seal-under-requires c κs = search needs
-
-same-length-2 : tie.Need-same-length-2
-same-length-2 c = search needs
 
 returns-2 : tie.Need-returns-2
 returns-2 c = let a = c .before .before .before .before .before .before .before .before .before .before .before .args in seal-done (connectionOf (a .c)) (sessionOf (a .s)) (a .id) (a .message .now) (passes (sealTests (connectionOf (a .c) .protection) (a .message .now) ++ recordTests (connectionOf (a .c)) (sessionOf (a .s))) _ refl (c .before .before .before .before .before .before .before .before .seal-number .ensures) (c .before .before .before .before .before .before .before .if1 .left)) (protectionOf (a .c .dialect) (c .before .before .before .before .before .switch .result) (a .c .cipher)) (same-protection (a .c .dialect) (c .before .before .before .before .before .switch .result) (a .c .cipher) (a .c .encryption) (c .before .before .before .before .before .switch .ensures)) _ (c .before .before .before .before .before .before .sealing-key .ensures) (c .before .before .before .before .before .before .sealing-key .ok .1 .0 .1) _ _ (c .before .before .seal-under .ensures)
@@ -44,12 +23,12 @@ pub seal-record-spec : {M : Type 1} → statement M
 seal-record-spec =
     tie.close
     (tie.spec
-    seal-number-requires
-    same-length
+    (λ c κs. search needs)
+    (λ c. search needs)
     returns
-    sealing-key-requires
-    switch-requires
-    slice-aggregate-seal-under
-    seal-under-requires
-    same-length-2
+    (λ c κs. search needs)
+    (λ c κs. search needs)
+    (λ c. search needs)
+    (λ c κs. search needs)
+    (λ c. search needs)
     returns-2)

@@ -8,21 +8,6 @@ use borrow.Author.Needs.{needs}
 use Rattle.sha512_compression.proofs.compress.Statement.{statement}
 use Rattle.sha512_compression.proofs.compress.Tie as tie
 
-parse-requires : tie.Need-parse-requires
-parse-requires c κs = search needs
-
-working-requires : tie.Need-working-requires
-working-requires c κs = search needs
-
-first-rounds-requires : tie.Need-first-rounds-requires
-first-rounds-requires c κs = search needs
-
-last-rounds-requires : tie.Need-last-rounds-requires
-last-rounds-requires c κs = search needs
-
-sums-requires : tie.Need-sums-requires
-sums-requires c κs = search needs
-
 returns : tie.Need-returns
 returns c =
     let a = c .before .before .before .before .before .before .before .before .before .args in
@@ -33,9 +18,9 @@ pub compress-spec : {M : Type 1} → statement M
 compress-spec =
     tie.close
     (tie.spec
-    parse-requires
-    working-requires
-    first-rounds-requires
-    last-rounds-requires
-    sums-requires
+    (λ c κs. search needs)
+    (λ c κs. search needs)
+    (λ c κs. search needs)
+    (λ c κs. search needs)
+    (λ c κs. search needs)
     returns)

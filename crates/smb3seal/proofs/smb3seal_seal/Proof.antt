@@ -7,24 +7,12 @@ use borrow.Author.Needs.{needs}
 use Rattle.smb3seal.proofs.smb3seal_seal.Statement.{statement}
 use Rattle.smb3seal.proofs.smb3seal_seal.Tie as tie
 
-seal-under-requires : tie.Need-seal-under-requires
-seal-under-requires c κs = search needs
-
 counter-after-requires : tie.Need-counter-after-requires
 counter-after-requires c κs =
     let a = c .before .before .before .before .before .before .before .args in
     let seal-under = c .before .before .seal-under in
     last-refused (protectionOf (a .dialect) (a .encryption) (a .cipher)) (a .key .now) (a .id) (a .counter .now) (a .message .now) _ _
     (seal-under .ensures)
-
-headers-after-requires : tie.Need-headers-after-requires
-headers-after-requires c κs = search needs
-
-number-requires : tie.Need-number-requires
-number-requires c κs = search needs
-
-same-length : tie.Need-same-length
-same-length c = search needs
 
 returns : tie.Need-returns
 returns c =
@@ -38,9 +26,9 @@ pub smb3seal-seal-spec : {M : Type 1} → statement M
 smb3seal-seal-spec =
     tie.close
     (tie.spec
-    seal-under-requires
+    (λ c κs. search needs)
     counter-after-requires
-    headers-after-requires
-    number-requires
-    same-length
+    (λ c κs. search needs)
+    (λ c κs. search needs)
+    (λ c. search needs)
     returns)

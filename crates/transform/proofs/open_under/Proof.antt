@@ -17,12 +17,6 @@ passed c =
     tests-passed (protectionOf (a .dialect) (a .encryption) (a .cipher)) (a .key .now) (a .id) (a .message .now) _ (c .before .open-under-number .ensures)
     (c .if1 .left)
 
-open-under-number-requires : tie.Need-open-under-number-requires
-open-under-number-requires c κs = search needs
-
-same-length : tie.Need-same-length
-same-length c = search needs
-
 returns : tie.Need-returns
 returns c =
     let a = c .before .before .before .before .before .args in
@@ -32,17 +26,11 @@ returns c =
 bytes-16-requires : tie.Need-bytes-16-requires
 bytes-16-requires c κs = let f = passed c .key-fits in omega arith
 
-cipher-used-requires : tie.Need-cipher-used-requires
-cipher-used-requires c κs = search needs
-
 open-message-requires : tie.Need-open-message-requires
 open-message-requires c κs =
     let a = c .before .before .before .before .before .before .before .before .args in
     let f = passed (c .before .before .before) in
     sized (protectionOf (a .dialect) (a .encryption) (a .cipher)) (a .key .now) (a .message .now) f
-
-same-length-2 : tie.Need-same-length-2
-same-length-2 c = search needs
 
 returns-2 : tie.Need-returns-2
 returns-2 c =
@@ -59,11 +47,11 @@ pub open-under-spec : {M : Type 1} → statement M
 open-under-spec =
     tie.close
     (tie.spec
-    open-under-number-requires
-    same-length
+    (λ c κs. search needs)
+    (λ c. search needs)
     returns
     bytes-16-requires
-    cipher-used-requires
+    (λ c κs. search needs)
     open-message-requires
-    same-length-2
+    (λ c. search needs)
     returns-2)

@@ -18,12 +18,6 @@ passed c =
     first-passed (protectionOf (a .dialect) (a .encryption) (a .cipher)) (a .key .now) (a .message .now) _ (c .before .seal-under-number .ensures)
     (c .if1 .left)
 
-seal-under-number-requires : tie.Need-seal-under-number-requires
-seal-under-number-requires c κs = search needs
-
-same-length : tie.Need-same-length
-same-length c = search needs
-
 returns : tie.Need-returns
 returns c =
     let a = c .before .before .before .before .before .args in
@@ -36,12 +30,6 @@ walk-inner-requires c κs =
     let f = passed (c .before) in
     sized (protectionOf (a .dialect) (a .encryption) (a .cipher)) (a .key .now) (a .message .now) f
 
-refused-requires : tie.Need-refused-requires
-refused-requires c κs = search needs
-
-same-length-2 : tie.Need-same-length-2
-same-length-2 c = search needs
-
 returns-2 : tie.Need-returns-2
 returns-2 c =
     let a = c .before .before .before .before .before .before .before .before .before .args in
@@ -49,9 +37,6 @@ returns-2 c =
     let walk-inner = c .before .before .walk-inner in
     walk-refuses (protectionOf (a .dialect) (a .encryption) (a .cipher)) (a .key .now) (a .id) (a .counter) (a .message .now) f _
     (walk-inner .ensures) (sym (c .before .refused .ensures) ∙ c .if2 .taken)
-
-same-length-3 : tie.Need-same-length-3
-same-length-3 c = search needs
 
 returns-3 : tie.Need-returns-3
 returns-3 c =
@@ -65,17 +50,11 @@ returns-3 c =
 bytes-16-requires : tie.Need-bytes-16-requires
 bytes-16-requires c κs = let f = passed (c .before .before .before .before .before) .key-fits in omega arith
 
-cipher-used-requires : tie.Need-cipher-used-requires
-cipher-used-requires c κs = search needs
-
 seal-message-requires : tie.Need-seal-message-requires
 seal-message-requires c κs =
     let a = c .before .before .before .before .before .before .before .before .before .before .before .before .before .args in
     let f = passed (c .before .before .before .before .before .before .before .before) in
     sized (protectionOf (a .dialect) (a .encryption) (a .cipher)) (a .key .now) (a .message .now) f
-
-same-length-4 : tie.Need-same-length-4
-same-length-4 c = search needs
 
 returns-4 : tie.Need-returns-4
 returns-4 c =
@@ -95,17 +74,17 @@ pub seal-under-spec : {M : Type 1} → statement M
 seal-under-spec =
     tie.close
     (tie.spec
-    seal-under-number-requires
-    same-length
+    (λ c κs. search needs)
+    (λ c. search needs)
     returns
     walk-inner-requires
-    refused-requires
-    same-length-2
+    (λ c κs. search needs)
+    (λ c. search needs)
     returns-2
-    same-length-3
+    (λ c. search needs)
     returns-3
     bytes-16-requires
-    cipher-used-requires
+    (λ c κs. search needs)
     seal-message-requires
-    same-length-4
+    (λ c. search needs)
     returns-4)

@@ -5,30 +5,6 @@ use Rattle.aes.proofs.WordLaws.{xor, own}
 use Rattle.aes.proofs.rounds.column.Tie as tie
 use Rattle.aes.proofs.rounds.column.Statement.{statement}
 
-low-requires : tie.Need-low-requires
-low-requires c κs = search needs
-
-from-row0-requires : tie.Need-from-row0-requires
-from-row0-requires c κs = search needs
-
-low-requires-2 : tie.Need-low-requires-2
-low-requires-2 c κs = search needs
-
-from-row1-requires : tie.Need-from-row1-requires
-from-row1-requires c κs = search needs
-
-low-requires-3 : tie.Need-low-requires-3
-low-requires-3 c κs = search needs
-
-from-row2-requires : tie.Need-from-row2-requires
-from-row2-requires c κs = search needs
-
-low-requires-4 : tie.Need-low-requires-4
-low-requires-4 c κs = search needs
-
-from-row3-requires : tie.Need-from-row3-requires
-from-row3-requires c κs = search needs
-
 returns : tie.Need-returns
 unfolding mixed
 returns c =
@@ -42,12 +18,12 @@ pub column-spec : {M : Type 1} → statement M
 column-spec =
     tie.close
     (tie.spec
-    low-requires
-    from-row0-requires
-    low-requires-2
-    from-row1-requires
-    low-requires-3
-    from-row2-requires
-    low-requires-4
-    from-row3-requires
+    (λ c κs. search needs)
+    (λ c κs. search needs)
+    (λ c κs. search needs)
+    (λ c κs. search needs)
+    (λ c κs. search needs)
+    (λ c κs. search needs)
+    (λ c κs. search needs)
+    (λ c κs. search needs)
     returns)

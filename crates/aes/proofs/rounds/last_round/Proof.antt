@@ -7,18 +7,6 @@ use Rattle.aes.proofs.WordLaws.{begins}
 use Rattle.aes.proofs.rounds.last_round.Tie as tie
 use Rattle.aes.proofs.rounds.last_round.Statement.{statement}
 
-last-column-requires : tie.Need-last-column-requires
-last-column-requires c κs = search needs
-
-last-column-requires-2 : tie.Need-last-column-requires-2
-last-column-requires-2 c κs = search needs
-
-last-column-requires-3 : tie.Need-last-column-requires-3
-last-column-requires-3 c κs = search needs
-
-last-column-requires-4 : tie.Need-last-column-requires-4
-last-column-requires-4 c κs = search needs
-
 returns : tie.Need-returns
 unfolding stateOf bytesOf addRoundKey shiftRows subBytes state
 returns c =
@@ -29,8 +17,8 @@ pub last-round-spec : {M : Type 1} → statement M
 last-round-spec =
     tie.close
     (tie.spec
-    last-column-requires
-    last-column-requires-2
-    last-column-requires-3
-    last-column-requires-4
+    (λ c κs. search needs)
+    (λ c κs. search needs)
+    (λ c κs. search needs)
+    (λ c κs. search needs)
     returns)

@@ -10,25 +10,16 @@ use Rattle.compound.proofs.tests.first_number.Tie as tie
 returns : tie.Need-returns
 returns c = let a = c .before .before .args in first-11 (a .m .now) (a .id) (c .if1 .taken)
 
-is-header-requires : tie.Need-is-header-requires
-is-header-requires c κs = search needs
-
 returns-2 : tie.Need-returns-2
 returns-2 c =
     let a = c .before .before .before .before .args in
     first-12 (a .m .now) (a .id) (c .before .before .if1 .left) (sym (c .before .is-header .ensures) ∙ not-true _ (c .if2 .taken))
-
-is-related-requires : tie.Need-is-related-requires
-is-related-requires c κs = search needs
 
 returns-3 : tie.Need-returns-3
 returns-3 c =
     let a = c .before .before .before .before .before .before .args in
     let header = sym (c .before .before .before .is-header .ensures) ∙ not-false _ (c .before .before .if2 .left) in
     first-13 (a .m .now) (a .id) (c .before .before .before .before .if1 .left) header (sym (c .before .is-related .ensures) ∙ c .if3 .taken)
-
-session-id-requires : tie.Need-session-id-requires
-session-id-requires c κs = search needs
 
 returns-4 : tie.Need-returns-4
 returns-4 c =
@@ -51,10 +42,10 @@ first-number-spec =
     tie.close
     (tie.spec
     returns
-    is-header-requires
+    (λ c κs. search needs)
     returns-2
-    is-related-requires
+    (λ c κs. search needs)
     returns-3
-    session-id-requires
+    (λ c κs. search needs)
     returns-4
     returns-5)

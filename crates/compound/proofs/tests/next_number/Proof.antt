@@ -14,12 +14,6 @@ use Rattle.compound.proofs.tests.next_number.Tie as tie
 returns : tie.Need-returns
 returns c = let a = c .before .before .args in next-15-near (a .m .now) (a .id) (a .p) (a .d) (c .if1 .taken)
 
-sub-if2 : tie.Need-sub-if2
-sub-if2 c = search needs
-
-sub-if2-2 : tie.Need-sub-if2-2
-sub-if2-2 c = search needs
-
 returns-2 : tie.Need-returns-2
 returns-2 c =
     let a = c .before .before .before .args in
@@ -30,22 +24,10 @@ returns-3 c =
     let a = c .before .before .before .before .args in
     next-16 (a .m .now) (a .id) (a .p) (a .d) (c .before .before .if1 .left) (omega arith) (c .if3 .taken)
 
-add-q : tie.Need-add-q
-add-q c = search needs
-
-is-header-requires : tie.Need-is-header-requires
-is-header-requires c κs = search needs
-
 returns-4 : tie.Need-returns-4
 returns-4 c =
     let a = c .before .before .before .before .before .before .args in
     next-12 (a .m .now) (a .id) (a .p) (a .d) (c .before .before .before .before .if1 .left) (omega arith) (c .before .before .if3 .left) (sym (c .before .is-header .ensures) ∙ not-true _ (c .if4 .taken))
-
-is-related-requires : tie.Need-is-related-requires
-is-related-requires c κs = search needs
-
-session-id-requires : tie.Need-session-id-requires
-session-id-requires c κs = search needs
 
 returns-5 : tie.Need-returns-5
 returns-5 c =
@@ -68,14 +50,14 @@ next-number-spec =
     tie.close
     (tie.spec
     returns
-    sub-if2
-    sub-if2-2
+    (λ c. search needs)
+    (λ c. search needs)
     returns-2
     returns-3
-    add-q
-    is-header-requires
+    (λ c. search needs)
+    (λ c κs. search needs)
     returns-4
-    is-related-requires
-    session-id-requires
+    (λ c κs. search needs)
+    (λ c κs. search needs)
     returns-5
     returns-6)

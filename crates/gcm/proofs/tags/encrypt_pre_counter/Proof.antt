@@ -6,12 +6,6 @@ use Rattle.ctr.specs.BlockCipher.{blockCipher}
 use Rattle.gcm.proofs.tags.encrypt_pre_counter.Statement.{statement}
 use Rattle.gcm.proofs.tags.encrypt_pre_counter.Tie as tie
 
-counter-block-requires : tie.Need-counter-block-requires
-counter-block-requires c κs = search needs
-
-encrypt-with-requires : tie.Need-encrypt-with-requires
-encrypt-with-requires c κs = search needs
-
 returns : tie.Need-returns
 returns c =
     c .encrypt-with .ensures ∙ ap (blockCipher (now (c .before .before .args .keys))) (c .before .counter-block .ensures)
@@ -20,6 +14,6 @@ pub encrypt-pre-counter-spec : {M : Type 1} → statement M
 encrypt-pre-counter-spec =
     tie.close
     (tie.spec
-    counter-block-requires
-    encrypt-with-requires
+    (λ c κs. search needs)
+    (λ c κs. search needs)
     returns)

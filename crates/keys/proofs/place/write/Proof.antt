@@ -40,9 +40,6 @@ copy-requires-4 c κs =
     let one = two .before .before .before .before .before in
     omega (arith, slice-aggregate-copy-4 c, three .place3 .given, two .place2 .given, one .place .given, one .before .before .before .before .before .before .before .before .before .pre)
 
-same-length : tie.Need-same-length
-same-length c = search needs
-
 returns : tie.Need-returns
 returns c =
     let four = c .before .before in
@@ -70,5 +67,5 @@ write-spec =
     copy-requires-3
     slice-aggregate-copy-4
     copy-requires-4
-    same-length
+    (λ c. search needs)
     returns)

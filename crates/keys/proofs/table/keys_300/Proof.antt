@@ -6,42 +6,6 @@ use borrow.Author.Needs.{needs}
 use Rattle.keys.proofs.table.keys_300.Statement.{statement}
 use Rattle.keys.proofs.table.keys_300.Tie as tie
 
-slice-aggregate-derive-16 : tie.Need-slice-aggregate-derive-16
-slice-aggregate-derive-16 c = search needs
-
-slice-aggregate-derive-16-2 : tie.Need-slice-aggregate-derive-16-2
-slice-aggregate-derive-16-2 c = search needs
-
-derive-16-requires : tie.Need-derive-16-requires
-derive-16-requires c κs = search needs
-
-slice-aggregate-derive-16-3 : tie.Need-slice-aggregate-derive-16-3
-slice-aggregate-derive-16-3 c = search needs
-
-slice-aggregate-derive-16-4 : tie.Need-slice-aggregate-derive-16-4
-slice-aggregate-derive-16-4 c = search needs
-
-derive-16-requires-2 : tie.Need-derive-16-requires-2
-derive-16-requires-2 c κs = search needs
-
-slice-aggregate-derive-16-5 : tie.Need-slice-aggregate-derive-16-5
-slice-aggregate-derive-16-5 c = search needs
-
-slice-aggregate-derive-16-6 : tie.Need-slice-aggregate-derive-16-6
-slice-aggregate-derive-16-6 c = search needs
-
-derive-16-requires-3 : tie.Need-derive-16-requires-3
-derive-16-requires-3 c κs = search needs
-
-slice-aggregate-derive-16-7 : tie.Need-slice-aggregate-derive-16-7
-slice-aggregate-derive-16-7 c = search needs
-
-slice-aggregate-derive-16-8 : tie.Need-slice-aggregate-derive-16-8
-slice-aggregate-derive-16-8 c = search needs
-
-derive-16-requires-4 : tie.Need-derive-16-requires-4
-derive-16-requires-4 c κs = search needs
-
 returns : tie.Need-returns
 unfolding smb2AesCmac smb2App smb2AesCcm smbSign smbRpc serverIn serverOut
 returns c =
@@ -56,16 +20,16 @@ pub keys-300-spec : {M : Type 1} → statement M
 keys-300-spec =
     tie.close
     (tie.spec
-    slice-aggregate-derive-16
-    slice-aggregate-derive-16-2
-    derive-16-requires
-    slice-aggregate-derive-16-3
-    slice-aggregate-derive-16-4
-    derive-16-requires-2
-    slice-aggregate-derive-16-5
-    slice-aggregate-derive-16-6
-    derive-16-requires-3
-    slice-aggregate-derive-16-7
-    slice-aggregate-derive-16-8
-    derive-16-requires-4
+    (λ c. search needs)
+    (λ c. search needs)
+    (λ c κs. search needs)
+    (λ c. search needs)
+    (λ c. search needs)
+    (λ c κs. search needs)
+    (λ c. search needs)
+    (λ c. search needs)
+    (λ c κs. search needs)
+    (λ c. search needs)
+    (λ c. search needs)
+    (λ c κs. search needs)
     returns)

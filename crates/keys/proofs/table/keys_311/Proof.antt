@@ -6,30 +6,6 @@ use borrow.Author.Needs.{needs}
 use Rattle.keys.proofs.table.keys_311.Statement.{statement}
 use Rattle.keys.proofs.table.keys_311.Tie as tie
 
-slice-aggregate-derive-16 : tie.Need-slice-aggregate-derive-16
-slice-aggregate-derive-16 c = search needs
-
-derive-16-requires : tie.Need-derive-16-requires
-derive-16-requires c κs = search needs
-
-slice-aggregate-derive-16-2 : tie.Need-slice-aggregate-derive-16-2
-slice-aggregate-derive-16-2 c = search needs
-
-derive-16-requires-2 : tie.Need-derive-16-requires-2
-derive-16-requires-2 c κs = search needs
-
-slice-aggregate-derive-16-3 : tie.Need-slice-aggregate-derive-16-3
-slice-aggregate-derive-16-3 c = search needs
-
-derive-16-requires-3 : tie.Need-derive-16-requires-3
-derive-16-requires-3 c κs = search needs
-
-slice-aggregate-derive-16-4 : tie.Need-slice-aggregate-derive-16-4
-slice-aggregate-derive-16-4 c = search needs
-
-derive-16-requires-4 : tie.Need-derive-16-requires-4
-derive-16-requires-4 c κs = search needs
-
 returns : tie.Need-returns
 unfolding smbSigningKey smbAppKey smbC2SCipherKey smbS2CCipherKey
 returns c =
@@ -45,12 +21,12 @@ pub keys-311-spec : {M : Type 1} → statement M
 keys-311-spec =
     tie.close
     (tie.spec
-    slice-aggregate-derive-16
-    derive-16-requires
-    slice-aggregate-derive-16-2
-    derive-16-requires-2
-    slice-aggregate-derive-16-3
-    derive-16-requires-3
-    slice-aggregate-derive-16-4
-    derive-16-requires-4
+    (λ c. search needs)
+    (λ c κs. search needs)
+    (λ c. search needs)
+    (λ c κs. search needs)
+    (λ c. search needs)
+    (λ c κs. search needs)
+    (λ c. search needs)
+    (λ c κs. search needs)
     returns)

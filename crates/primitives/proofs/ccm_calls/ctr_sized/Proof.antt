@@ -10,27 +10,6 @@ use borrow.Author.Needs.{needs}
 use Rattle.primitives.proofs.ccm_calls.ctr_sized.Statement.{statement}
 use Rattle.primitives.proofs.ccm_calls.ctr_sized.Tie as tie
 
-bytes-16-requires : tie.Need-bytes-16-requires
-bytes-16-requires c κs = search needs
-
-expand-key-requires : tie.Need-expand-key-requires
-expand-key-requires c κs = search needs
-
-table-requires : tie.Need-table-requires
-table-requires c κs = search needs
-
-slice-aggregate-apply : tie.Need-slice-aggregate-apply
-slice-aggregate-apply c = search needs
-
-bytes-12-requires : tie.Need-bytes-12-requires
-bytes-12-requires c κs = search needs
-
-apply-requires : tie.Need-apply-requires
-apply-requires c κs = search needs
-
-same-length : tie.Need-same-length
-same-length c = search needs
-
 returns : tie.Need-returns
 returns c = let a = c .before .before .before .before .before .before .before .before .before .before .before .before .before in c .before .before .apply .ensures ∙ ap₂ (λ (ks : List (List ℕ)) (p : List ℕ). ctr (blockCipher ks) (counterBlocks p (a .args .first)) (a .args .text .now)) (expanded (a .args .key .now) _ _ (a .pre .0) (c .before .before .before .before .before .before .before .before .before .bytes-16 .ensures) (c .before .before .before .before .before .before .before .before .expand-key .ensures)) (whole 12 (a .args .prefix .now) _ (a .pre .1) (c .before .before .before .before .bytes-12 .ensures))
 
@@ -38,11 +17,11 @@ pub ctr-sized-spec : {M : Type 1} → statement M
 ctr-sized-spec =
     tie.close
     (tie.spec
-    bytes-16-requires
-    expand-key-requires
-    table-requires
-    slice-aggregate-apply
-    bytes-12-requires
-    apply-requires
-    same-length
+    (λ c κs. search needs)
+    (λ c κs. search needs)
+    (λ c κs. search needs)
+    (λ c. search needs)
+    (λ c κs. search needs)
+    (λ c κs. search needs)
+    (λ c. search needs)
     returns)

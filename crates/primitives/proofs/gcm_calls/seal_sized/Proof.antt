@@ -7,33 +7,6 @@ use borrow.Author.Needs.{needs}
 use Rattle.primitives.proofs.gcm_calls.seal_sized.Statement.{statement}
 use Rattle.primitives.proofs.gcm_calls.seal_sized.Tie as tie
 
-bytes-16-requires : tie.Need-bytes-16-requires
-bytes-16-requires c κs = search needs
-
-expand-key-requires : tie.Need-expand-key-requires
-expand-key-requires c κs = search needs
-
-bytes-12-requires : tie.Need-bytes-12-requires
-bytes-12-requires c κs = search needs
-
-slice-aggregate-seal : tie.Need-slice-aggregate-seal
-slice-aggregate-seal c = search needs
-
-seal-requires : tie.Need-seal-requires
-seal-requires c κs = search needs
-
-slice-aggregate-copy : tie.Need-slice-aggregate-copy
-slice-aggregate-copy c = search needs
-
-copy-requires : tie.Need-copy-requires
-copy-requires c κs = search needs
-
-same-length : tie.Need-same-length
-same-length c = search needs
-
-same-length-2 : tie.Need-same-length-2
-same-length-2 c = search needs
-
 returns : tie.Need-returns
 returns c = let a = c .before .before .before .before .before .before .before .before .before .before .before .before .before .before .before .before .before .before in let s = rw (expanded (a .args .key .now) _ _ (a .pre .0) (c .before .before .before .before .before .before .before .before .before .before .before .before .bytes-16 .ensures) (c .before .before .before .before .before .before .before .before .before .before .before .expand-key .ensures), whole 12 (a .args .nonce .now) _ (a .pre .1) (c .before .before .before .before .before .before .before .before .before .before .bytes-12 .ensures)) at (c .before .before .before .before .before .before .before .seal .ensures) in let v : length (c .before .before .before .before .before .before .before .seal .result) ≡ 16 = c .before .before .before .before .before .before .before .seal .ok .1 .0 .1 in (s .bytes, filled _ _ _ (a .pre .3 ∙ sym v) (c .before .before .copy .ensures) ∙ s .tagged)
 
@@ -41,13 +14,13 @@ pub seal-sized-spec : {M : Type 1} → statement M
 seal-sized-spec =
     tie.close
     (tie.spec
-    bytes-16-requires
-    expand-key-requires
-    bytes-12-requires
-    slice-aggregate-seal
-    seal-requires
-    slice-aggregate-copy
-    copy-requires
-    same-length
-    same-length-2
+    (λ c κs. search needs)
+    (λ c κs. search needs)
+    (λ c κs. search needs)
+    (λ c. search needs)
+    (λ c κs. search needs)
+    (λ c. search needs)
+    (λ c κs. search needs)
+    (λ c. search needs)
+    (λ c. search needs)
     returns)

@@ -19,9 +19,6 @@ room c = sym (length-map (c .args .self .buffer) _) ∙ c .good .0 .1 .1 .1 .0 .
 part-length : (c : tie.Start) → length (take (c .args .self .count % 64) (c .args .self .buffer)) ≡ c .args .self .count % 64
 part-length c = let r = room c in length-take-le (c .args .self .count % 64) (c .args .self .buffer) (omega arith)
 
-padded-length-requires : tie.Need-padded-length-requires
-padded-length-requires c κs = search needs
-
 array-share-prefix-buffer : tie.Need-array-share-prefix-buffer
 array-share-prefix-buffer c = let r = room (c .before .before .before) in omega arith
 
@@ -34,20 +31,8 @@ padded-requires c κs =
     let e = c .before .padded-length .ensures in
     (omega (arith, e .0), e .2)
 
-round-constants-requires : tie.Need-round-constants-requires
-round-constants-requires c κs = search needs
-
-array-share-prefix-t : tie.Need-array-share-prefix-t
-array-share-prefix-t c = search needs
-
 slice-aggregate-hash-blocks : tie.Need-slice-aggregate-hash-blocks
 slice-aggregate-hash-blocks c = sym (length-take-le _ (c .before .before .padded .result) (omega (arith, c .before .before .padded .ok .1 .0 .1, c .before .before .before .before .padded-length .ensures .2)))
-
-hash-blocks-requires : tie.Need-hash-blocks-requires
-hash-blocks-requires c κs = search needs
-
-digest-requires : tie.Need-digest-requires
-digest-requires c κs = search needs
 
 returns : tie.Need-returns
 returns c =
@@ -59,13 +44,13 @@ pub finish-spec : {M : Type 1} → statement M
 finish-spec =
     tie.close
     (tie.spec
-    padded-length-requires
+    (λ c κs. search needs)
     array-share-prefix-buffer
     slice-aggregate-padded
     padded-requires
-    round-constants-requires
-    array-share-prefix-t
+    (λ c κs. search needs)
+    (λ c. search needs)
     slice-aggregate-hash-blocks
-    hash-blocks-requires
-    digest-requires
+    (λ c κs. search needs)
+    (λ c κs. search needs)
     returns)

@@ -7,42 +7,6 @@ use borrow.Author.Needs.{needs}
 use Rattle.transform.proofs.fields.authenticated_bytes.Statement.{statement}
 use Rattle.transform.proofs.fields.authenticated_bytes.Tie as tie
 
-u64-bytes-requires : tie.Need-u64-bytes-requires
-u64-bytes-requires c κs = search needs
-
-u32-bytes-requires : tie.Need-u32-bytes-requires
-u32-bytes-requires c κs = search needs
-
-u64-bytes-requires-2 : tie.Need-u64-bytes-requires-2
-u64-bytes-requires-2 c κs = search needs
-
-slice-aggregate-copy : tie.Need-slice-aggregate-copy
-slice-aggregate-copy c = search needs
-
-slice-aggregate-copy-2 : tie.Need-slice-aggregate-copy-2
-slice-aggregate-copy-2 c = search needs
-
-copy-requires : tie.Need-copy-requires
-copy-requires c κs = search needs
-
-slice-aggregate-copy-3 : tie.Need-slice-aggregate-copy-3
-slice-aggregate-copy-3 c = search needs
-
-slice-aggregate-copy-4 : tie.Need-slice-aggregate-copy-4
-slice-aggregate-copy-4 c = search needs
-
-copy-requires-2 : tie.Need-copy-requires-2
-copy-requires-2 c κs = search needs
-
-array-write-r : tie.Need-array-write-r
-array-write-r c = search needs
-
-slice-aggregate-copy-5 : tie.Need-slice-aggregate-copy-5
-slice-aggregate-copy-5 c = search needs
-
-slice-aggregate-copy-6 : tie.Need-slice-aggregate-copy-6
-slice-aggregate-copy-6 c = search needs
-
 copy-requires-3 : tie.Need-copy-requires-3
 copy-requires-3 c κs = simp length-set (search needs)
 
@@ -61,17 +25,17 @@ pub authenticated-bytes-spec : {M : Type 1} → statement M
 authenticated-bytes-spec =
     tie.close
     (tie.spec
-    u64-bytes-requires
-    u32-bytes-requires
-    u64-bytes-requires-2
-    slice-aggregate-copy
-    slice-aggregate-copy-2
-    copy-requires
-    slice-aggregate-copy-3
-    slice-aggregate-copy-4
-    copy-requires-2
-    array-write-r
-    slice-aggregate-copy-5
-    slice-aggregate-copy-6
+    (λ c κs. search needs)
+    (λ c κs. search needs)
+    (λ c κs. search needs)
+    (λ c. search needs)
+    (λ c. search needs)
+    (λ c κs. search needs)
+    (λ c. search needs)
+    (λ c. search needs)
+    (λ c κs. search needs)
+    (λ c. search needs)
+    (λ c. search needs)
+    (λ c. search needs)
     copy-requires-3
     returns)

@@ -7,30 +7,12 @@ use borrow.Author.Needs.{needs}
 use Rattle.transform.proofs.text.open_text.Statement.{statement}
 use Rattle.transform.proofs.text.open_text.Tie as tie
 
-open-requires : tie.Need-open-requires
-open-requires c κs = search needs
-
-same-length : tie.Need-same-length
-same-length c = search needs
-
 returns : tie.Need-returns
 returns c =
     let a = c .before .before .before .before .before .before .args in
     let deciphered = c .before .before .before .«open» in
     tag-wrong (a .cipher) (a .key) (a .nonce) (a .aad) (a .tag) (a .size) (a .id) (a .text .now) _ _ (deciphered .ensures)
     (not-true _ (c .if1 .taken))
-
-size-then-walk-requires : tie.Need-size-then-walk-requires
-size-then-walk-requires c κs = search needs
-
-refused-requires : tie.Need-refused-requires
-refused-requires c κs = search needs
-
-apply-requires : tie.Need-apply-requires
-apply-requires c κs = search needs
-
-same-length-2 : tie.Need-same-length-2
-same-length-2 c = search needs
 
 returns-2 : tie.Need-returns-2
 returns-2 c =
@@ -43,9 +25,6 @@ returns-2 c =
     let apply = c .before .before .apply in
     restored (a .cipher) (a .key) (a .nonce) (a .aad) (a .tag) (a .size) (a .id) (a .text .now) _ _ (deciphered .ensures) (not-false _ (test1 .left))
     _ (size-then-walk .ensures) (sym (refused .ensures) ∙ test2 .taken) _ (apply .ensures (a .aad))
-
-same-length-3 : tie.Need-same-length-3
-same-length-3 c = search needs
 
 returns-3 : tie.Need-returns-3
 returns-3 c =
@@ -60,13 +39,13 @@ pub open-text-spec : {M : Type 1} → statement M
 open-text-spec =
     tie.close
     (tie.spec
-    open-requires
-    same-length
+    (λ c κs. search needs)
+    (λ c. search needs)
     returns
-    size-then-walk-requires
-    refused-requires
-    apply-requires
-    same-length-2
+    (λ c κs. search needs)
+    (λ c κs. search needs)
+    (λ c κs. search needs)
+    (λ c. search needs)
     returns-2
-    same-length-3
+    (λ c. search needs)
     returns-3)
