@@ -19,7 +19,7 @@ use Rattle.gcm.proofs.GcmLaws as gcm-laws
 use Rattle.protocol.specs.Bytes.{Bytes}
 use Rattle.protocol.specs.Keys.{derivationInput}
 use Rattle.protocol.specs.Sound.{Sound}
-use Rattle.ciphers.specs.ByNumber.{aes128, ccmNonce, gcmNonce, Cipher, aes128Ccm, aes128Gcm, cipherOf}
+use Rattle.protocol.specs.Ciphers.{aes128, ccmNonce, gcmNonce, Cipher, aes128Ccm, aes128Gcm, cipherOf}
 use Rattle.protocol.specs.Suite.{suite, sha512, kdf}
 use Rattle.protocol.proofs.HashLengths.{length-hash, length-derived}
 

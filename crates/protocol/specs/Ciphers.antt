@@ -1,7 +1,7 @@
--- AES-128-CCM and AES-128-GCM under one signature, and the one that a number names. The nonce is the beginning of a field of 16 bytes.
+-- The ciphers by their number: document 01, "What the library covers" and "Ciphers". AES-128-CCM and AES-128-GCM under one signature;
+-- the nonce is the beginning of a field of 16 bytes.
 -- Assumes nothing.
 use mathlib.Core.Bool.{cond}
-use mathlib.Core.List.{List}
 use mathlib.Core.Option.{Option}
 use Prim.Native.Nat.{ℕ}
 use lib.Dec.{eqb}
@@ -10,9 +10,7 @@ use Rattle.aes.specs.KeyExpansion.{keyExpansion}
 use Rattle.ctr.specs.BlockCipher.{blockCipher}
 use Rattle.ccm.specs.Ccm as ccm
 use Rattle.gcm.specs.Gcm as gcm
-
-abbrev pub Bytes : Type 0
-Bytes = List ℕ
+use Rattle.protocol.specs.Bytes.{Bytes}
 
 -- AES under a key of 16 bytes: four words of key, ten rounds
 abbrev pub aes128 : Bytes → Bytes → Bytes
