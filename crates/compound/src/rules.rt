@@ -1,36 +1,38 @@
 // The rules that the walk tests at a header, as the number of the first one that is broken, or 0.
-use crate::header::is_header;
+use crate::Envelope;
 use crate::header::is_related;
 use crate::header::session_id;
+use protocol_id::begins;
 ghost use mathlib.Core.Path.{_≡_};
 ghost use Prim.Native.Nat.{_+_, _≤_};
 ghost use lib.ListN.{length};
 ghost use Rattle.protocol.specs.Answer.{firstOf};
-ghost use Rattle.protocol.specs.CompoundWalk.{firstHeaderTests, nextHeaderTests};
+ghost use Rattle.protocol.specs.Compound.{firstHeaderTests, nextHeaderTests};
+ghost use Rattle.compound.specs.Reading.{envelopeOf};
 
 // At the first header.
-pub fn first_number(m: &[u8], id: u64) -> u32
-    ensures { λ r. ⌜ r ≡ firstOf (firstHeaderTests (now (m .entry)) id) ⌝ }
+pub fn first_number(m: &[u8], e: Envelope) -> u32
+    ensures { λ r. ⌜ r ≡ firstOf (firstHeaderTests (now (m .entry)) (envelopeOf e)) ⌝ }
 {
     if m.len() < 64 {
         return 11;
     }
-    if !is_header(m, 0) {
+    if !begins(m, 0, 0xFE) {
         return 12;
     }
     if is_related(m, 0) {
         return 13;
     }
-    if session_id(m, 0) != id {
+    if session_id(m, 0) != e.id {
         return 14;
     }
     0
 }
 
 // At the header d bytes after the one at p.
-pub fn next_number(m: &[u8], id: u64, p: usize, d: usize) -> u32
+pub fn next_number(m: &[u8], e: Envelope, p: usize, d: usize) -> u32
     requires { ⌜ p + 64 ≤ length (now m) ⌝ }
-    ensures { λ r. ⌜ r ≡ firstOf (nextHeaderTests (now (m .entry)) id p d) ⌝ }
+    ensures { λ r. ⌜ r ≡ firstOf (nextHeaderTests (now (m .entry)) (envelopeOf e) p d) ⌝ }
 {
     if d < 64 {
         return 15;
@@ -43,10 +45,10 @@ pub fn next_number(m: &[u8], id: u64, p: usize, d: usize) -> u32
         return 16;
     }
     let q = p + d;
-    if !is_header(m, q) {
+    if !begins(m, q, 0xFE) {
         return 12;
     }
-    if !is_related(m, q) & (session_id(m, q) != id) {
+    if !is_related(m, q) & (session_id(m, q) != e.id) {
         return 14;
     }
     0
