@@ -11,7 +11,7 @@ use lib.ListN.{length}
 use Rattle.protocol.specs.Bytes.{Bytes}
 use Rattle.protocol.specs.Answer.{Answer, Test, judge, judgeAfter}
 use Rattle.protocol.specs.Connection.{Connection, cipherUsed}
-use Rattle.protocol.specs.TransformHeader.{inner, sessionIdOf}
+use Rattle.protocol.specs.TransformHeader.{inner, sessionIdOf, headerOf}
 use Rattle.protocol.specs.Compound.{walk}
 use Rattle.protocol.specs.Refusals.{otherSession, counterUsedUp}
 use Rattle.protocol.specs.SessionTable.{Session, sealingKey, openingKey}
@@ -61,7 +61,7 @@ module _ (P : Primitives) (c : Connection) (s : Session) (known : s .used ≡ tr
       text = plaintextUnder (P .ciphers) (cipherUsed c) key m
 
       front : List Test
-      front = messageTests c m ++ headerTests m
+      front = messageTests c m ++ headerTests (headerOf m)
 
       named : List Test
       named = otherSession (eqb (sessionIdOf m) (sessionIdOf m)) ∷ []

@@ -10,7 +10,7 @@ use lib.ListN.{length}
 use Rattle.protocol.specs.Bytes.{Bytes}
 use Rattle.protocol.specs.Answer.{Answer, done, whenDone, Test, judge, judgeAfter}
 use Rattle.protocol.specs.Connection.{Connection, cipherUsed}
-use Rattle.protocol.specs.TransformHeader.{inner, originalMessageSize, sessionIdOf}
+use Rattle.protocol.specs.TransformHeader.{inner, sessionIdOf, TransformHeader, headerOf}
 use Rattle.protocol.specs.InnerHeader.{Envelope}
 use Rattle.protocol.specs.Compound.{walk}
 use Rattle.protocol.specs.Keys.{sessionKey, derivedKeys, keysInOrder}
@@ -116,8 +116,8 @@ abbrev pub messageTests : Connection → Bytes → List Test
 messageTests c m = notEncrypting c ∷ tooShort m ∷ tooLong (inner m) ∷ []
 
 -- 4 and 5: every opening, on the header
-abbrev pub headerTests : Bytes → List Test
-headerTests m = notTransform m ∷ badFlags m ∷ []
+abbrev pub headerTests : TransformHeader → List Test
+headerTests h = notTransform h ∷ badFlags h ∷ []
 
 -- 6 to 8: every sealing and opening with the table, on the record s that lookup took
 abbrev pub recordTests : Connection → Session → List Test
@@ -125,7 +125,7 @@ recordTests c s = otherSession (s .used) ∷ constrained c ∷ guest s ∷ []
 
 -- 9 and 10: every opening, before the walk
 abbrev pub textTests : Bytes → Option Bytes → List Test
-textTests m text = badTag text ∷ badSize (originalMessageSize m) (length (inner m)) ∷ []
+textTests m text = badTag text ∷ badSize (headerOf m) (length (inner m)) ∷ []
 
 -- 18 and 19: deriving and adding
 abbrev pub materialTests : ℕ → Bytes → List Test
@@ -148,7 +148,7 @@ module _ (P : Primitives) (c : Connection) (m : Bytes) (s : Session) where
   unfoldable pub openTests : Tests
   openTests =
       record {
-        before = messageTests c m ++ (headerTests m ++ (recordTests c s ++ textTests m plaintext));
+        before = messageTests c m ++ (headerTests (headerOf m) ++ (recordTests c s ++ textTests m plaintext));
         walked = over (Option·getD plaintext []) (record { id = sessionIdOf m });
         later = [];
       }
@@ -173,7 +173,7 @@ module _ (P : Primitives) where
       let m = w .message in
       let text = plaintextUnder (P .ciphers) (cipherUsed c) key m in
       record {
-        before = keyTests key ++ (messageTests c m ++ (headerTests m ++ (otherSession (eqb (sessionIdOf m) id) ∷ textTests m text)));
+        before = keyTests key ++ (messageTests c m ++ (headerTests (headerOf m) ++ (otherSession (eqb (sessionIdOf m) id) ∷ textTests m text)));
         walked = over (Option·getD text []) (record { id = id });
         later = [];
       }

@@ -5,13 +5,12 @@ use mathlib.Core.Bool.{Bool, not, _&&_, _||_}
 use mathlib.Core.Option.{Option}
 use Prim.Native.Nat.{ℕ, _+_, _%_}
 use lib.Dec.{leb, ltb, eqb}
-use lib.ListN.{length, take}
+use lib.ListN.{length}
 use Rattle.octets.specs.Maybe.{isSome}
-use Rattle.octets.specs.Same.{sameBytes}
 use Rattle.protocol.specs.Bytes.{Bytes}
 use Rattle.protocol.specs.Answer.{Test, refuse_when_}
 use Rattle.protocol.specs.Connection.{Connection, knownDialect, encrypts, longestMessage, lastCounter}
-use Rattle.protocol.specs.TransformHeader.{protocolId, inner, flagsOf, originalMessageSize}
+use Rattle.protocol.specs.TransformHeader.{TransformHeader}
 use Rattle.protocol.specs.InnerHeader.{isInnerHeader, isRelated, innerSessionId, Envelope}
 use Rattle.protocol.specs.Preauth.{admitted}
 use Rattle.protocol.specs.SessionTable.{Session}
@@ -29,12 +28,12 @@ abbrev pub tooLong : Bytes → Test
 tooLong p = refuse 3 when ltb longestMessage (length p)
 
 -- "first four bytes not FD 53 4D 42"
-abbrev pub notTransform : Bytes → Test
-notTransform m = refuse 4 when not (sameBytes (take 4 m) protocolId)
+abbrev pub notTransform : TransformHeader → Test
+notTransform h = refuse 4 when not (h .begins)
 
 -- "Flags not 0x0001"
-abbrev pub badFlags : Bytes → Test
-badFlags m = refuse 5 when not (eqb (flagsOf m) 1)
+abbrev pub badFlags : TransformHeader → Test
+badFlags h = refuse 5 when not (eqb (h .flags) 1)
 
 -- "no used record has this id", or, under one given key, "a transform header with another id"
 abbrev pub otherSession : Bool → Test
@@ -53,8 +52,8 @@ abbrev pub badTag : Option Bytes → Test
 badTag text = refuse 9 when not (isSome text)
 
 -- "OriginalMessageSize differs from the bytes after the header", which are n
-abbrev pub badSize : ℕ → ℕ → Test
-badSize size n = refuse 10 when not (eqb size n)
+abbrev pub badSize : TransformHeader → ℕ → Test
+badSize h n = refuse 10 when not (eqb (h .size) n)
 
 -- "inner message under 64 bytes"
 abbrev pub innerTooShort : Bytes → Test

@@ -2,10 +2,10 @@
 -- Assumes nothing.
 use mathlib.Core.Path.{refl}
 use lib.ListN.{length-set}
-use Rattle.transform.proofs.Runs.{authenticated-put}
+use Rattle.transform_header.proofs.Runs.{authenticated-put}
 use borrow.Author.Needs.{needs}
-use Rattle.transform.proofs.fields.authenticated_bytes.Statement.{statement}
-use Rattle.transform.proofs.fields.authenticated_bytes.Tie as tie
+use Rattle.transform_header.proofs.authenticated_bytes.Statement.{statement}
+use Rattle.transform_header.proofs.authenticated_bytes.Tie as tie
 
 copy-requires-3 : tie.Need-copy-requires-3
 copy-requires-3 c κs = simp length-set (search needs)

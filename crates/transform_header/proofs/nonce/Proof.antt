@@ -1,9 +1,9 @@
 -- Right because the counter's eight bytes are put before eight zeros.
 -- Assumes nothing.
-use Rattle.transform.proofs.Runs.{nonce-put}
+use Rattle.transform_header.proofs.Runs.{nonce-put}
 use borrow.Author.Needs.{needs}
-use Rattle.transform.proofs.fields.nonce.Statement.{statement}
-use Rattle.transform.proofs.fields.nonce.Tie as tie
+use Rattle.transform_header.proofs.nonce.Statement.{statement}
+use Rattle.transform_header.proofs.nonce.Tie as tie
 
 u64-bytes-requires : tie.Need-u64-bytes-requires
 u64-bytes-requires c κs = search needs
