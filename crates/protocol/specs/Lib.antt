@@ -12,5 +12,6 @@ pub mod Ciphers
 pub mod Transform
 pub mod Calls
 pub mod Suite
+pub mod Contract
 pub mod Sound
 pub mod PLines

@@ -17,14 +17,15 @@ returns-2 c =
     let c6 = c3 .before .before .before in
     let m = c6 .before .before .before .args .m .now in
     rw (
-    le-ltb (length m) 52 (c6 .before .if1 .left),
-    c6 .begins .ensures,
-    c3 .before .before .bytes-16 .ensures,
-    c3 .before .bytes-162 .ensures,
-    c3 .bytes-32 .ensures,
-    c .before .before .u32-at .ensures,
-    c .before .u16-at .ensures,
-    c .u64-at .ensures)
+      le-ltb (length m) 52 (c6 .before .if1 .left),
+      c6 .begins .ensures,
+      c3 .before .before .bytes-16 .ensures,
+      c3 .before .bytes-162 .ensures,
+      c3 .bytes-32 .ensures,
+      c .before .before .u32-at .ensures,
+      c .before .u16-at .ensures,
+      c .u64-at .ensures,
+    )
 
 pub read-header-spec : {M : Type 1} → statement M
 read-header-spec =

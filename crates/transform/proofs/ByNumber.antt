@@ -13,8 +13,9 @@ use Rattle.ccm.specs.Ccm as ccm
 use Rattle.ccm.specs.Calls as ccm-calls
 use Rattle.gcm.specs.Gcm as gcm
 use Rattle.gcm.specs.Calls as gcm-calls
-use Rattle.ciphers.specs.ByNumber.{Bytes, Cipher, aes128Ccm, aes128Gcm, ccmNonce, gcmNonce, cipherOf}
-use Rattle.ciphers.specs.Calls.{Enciphered, Deciphered}
+use Rattle.protocol.specs.Bytes.{Bytes}
+use Rattle.protocol.specs.Ciphers.{Cipher, aes128Ccm, aes128Gcm, ccmNonce, gcmNonce, cipherOf}
+use Rattle.transform.specs.Steps.{Enciphered, Deciphered}
 
 gcm-named : (n : ℕ) → n ≡ 2 → cipherOf n ≡ aes128Gcm
 unfolding cipherOf

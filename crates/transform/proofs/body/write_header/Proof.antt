@@ -2,8 +2,8 @@
 -- Assumes nothing.
 use Rattle.transform.proofs.Sealing.{header-written}
 use borrow.Author.Needs.{needs}
-use Rattle.transform.proofs.text.write_header.Statement.{statement}
-use Rattle.transform.proofs.text.write_header.Tie as tie
+use Rattle.transform.proofs.body.write_header.Statement.{statement}
+use Rattle.transform.proofs.body.write_header.Tie as tie
 
 returns : tie.Need-returns
 returns c =
