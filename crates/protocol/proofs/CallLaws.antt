@@ -2,15 +2,17 @@
 -- Assumes nothing.
 use mathlib.Core.Path.{_≡_, sym, ap, _∙_}
 use mathlib.Core.Bool.{true, false}
-use mathlib.Core.List.{[]}
+use mathlib.Core.List.{List, []}
+use Prim.Native.Nat.{ℕ}
 use Rattle.protocol.specs.Bytes.{Bytes}
-use Rattle.protocol.specs.Answer.{Answer, answerNumber, isRefused, whenDone, judge}
+use Rattle.protocol.specs.Answer.{Answer, done, refused, answerNumber, isRefused, whenDone, Test, firstOf, judge}
 use Rattle.protocol.specs.InnerHeader.{Envelope}
 use Rattle.protocol.specs.Compound.{walk}
-use Rattle.protocol.specs.Calls.{Call, Lent, Tests, over, verdict, effect, answer, left}
+use Rattle.protocol.specs.Calls.{Call, Lent, Tests, carries, over, verdict, tests, effect, answer, left}
 use Rattle.protocol.specs.Suite.{suite}
 use Rattle.protocol.specs.Contract.{Makes, Returns}
 use Rattle.protocol.proofs.AnswerLaws.{when-done, when-refused, after-nothing}
+use Rattle.protocol.proofs.Judging.{positive, refuses, passes, judge-passed}
 
 -- tests with a walk and no line behind it
 pub verdict-walk : (t : Tests) (m : Bytes) (e : Envelope) → t .walked ≡ over m e → t .later ≡ [] → verdict t ≡ judge (t .before) (walk m e)
@@ -29,3 +31,26 @@ module _ (c : Call) (w : Lent) (a : Answer) (e : a ≡ answer suite c w) where
 -- the number of the answer
 pub returns-of : {c : Call} {w w′ : Lent} {a : Answer} → Makes c w a w′ → Returns c w (answerNumber a) w′
 returns-of m = record { number = ap answerNumber (m .answers); leaves = m .leaves }
+
+-- ---- what is left, once the answer is known
+
+module _ (c : Call) (w : Lent) where
+  pub left-refused : (n : ℕ) → answer suite c w ≡ refused n → left suite c w ≡ w
+  left-refused n e = ap (λ (x : Answer). whenDone x (λ k. effect suite c w) w) e
+
+  pub left-done : (n : ℕ) → answer suite c w ≡ done n → left suite c w ≡ effect suite c w
+  left-done n e = ap (λ (x : Answer). whenDone x (λ k. effect suite c w) w) e
+
+  -- a call that tests nothing but lines, and carries k where it is done; n is the number of the first line that applies, or 0
+  module _ (ts : List Test) (k n : ℕ) (alone : tests suite c w ≡ record { before = ts; walked = carries k; later = [] }) (s : n ≡ firstOf ts) where
+    pub lines-refused : (n ≡ 0 → ⊥) → answer suite c w ≡ refused n
+    lines-refused h = ap verdict alone ∙ refuses ts (done k) n s h
+
+    pub lines-done : positive ts ≡ true → n ≡ 0 → answer suite c w ≡ done k
+    lines-done p z = ap verdict alone ∙ judge-passed ts (done k) (passes ts n p s z)
+
+    pub lines-return : (n ≡ 0 → ⊥) → Returns c w n w
+    lines-return h = record { number = sym (ap answerNumber (lines-refused h)); leaves = sym (left-refused n (lines-refused h)) }
+
+    pub lines-return-done : positive ts ≡ true → n ≡ 0 → (w′ : Lent) → w′ ≡ effect suite c w → Returns c w n w′
+    lines-return-done p z w′ e = record { number = z ∙ sym (ap answerNumber (lines-done p z)); leaves = e ∙ sym (left-done k (lines-done p z)) }

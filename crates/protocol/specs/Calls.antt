@@ -1,7 +1,7 @@
 -- Every call as one value: what it is given, what it tests, what it changes. Its answer and what it leaves are then said once, for all calls.
 -- Document 01, "Numbers a caller can get back" and "Keys".
 -- Assumes nothing.
-use mathlib.Core.Bool.{_&&_}
+use mathlib.Core.Bool.{Bool, _&&_}
 use mathlib.Core.List.{List, [], _∷_, _++_}
 use mathlib.Core.Option.{Option, Option·getD}
 use Prim.Native.Nat.{ℕ, _+_}
@@ -131,6 +131,15 @@ textTests m text = badTag text ∷ badSize (headerOf m) (length (inner m)) ∷ [
 abbrev pub materialTests : ℕ → Bytes → List Test
 materialTests dialect material = unknownDialect dialect ∷ noKeyMaterial material ∷ []
 
+-- "Derivation alone tests 18 and 19", and 40 before them
+abbrev pub derivationTests : ℕ → Bytes → Bytes → Bytes → List Test
+derivationTests dialect chain material place = badLength (eqb (length chain) 64 && eqb (length place) 64) ∷ materialTests dialect material
+
+-- "adding 18 to 22", and 40 before them; whether a used record has the id, and whether there is a free one
+abbrev pub addTests : Adding → Bool → Bool → List Test
+addTests a taken room =
+    chainTests (a .chain) ++ (materialTests (a .dialect) (a .material) ++ (idZero (a .id) ∷ idTaken taken ∷ tableFull room ∷ []))
+
 -- ---- sealing and opening with a record
 
 module _ (P : Primitives) (c : Connection) (m : Bytes) (s : Session) where
@@ -157,9 +166,8 @@ module _ (P : Primitives) (c : Connection) (m : Bytes) (s : Session) where
 
 module _ (P : Primitives) where
   unfoldable pub tests : Call → Lent → Tests
-  -- "Derivation alone tests 18 and 19", and 40 before them
   tests (derivation dialect chain material) w =
-      lines (badLength (eqb (length chain) 64 && eqb (length (w .keys)) 64) ∷ materialTests dialect material)
+      lines (derivationTests dialect chain material (w .keys))
   -- 40, 23; "23 is tested before the status"
   tests (folding kind m) w = record { before = chainTests (w .chain) ++ (foldLength m ∷ []); walked = carries (foldMark kind m); later = [] }
   -- "Under one given key, 7 and 8 do not arise", and "sealing has no 6"
@@ -177,11 +185,7 @@ module _ (P : Primitives) where
         walked = over (Option·getD text []) (record { id = id });
         later = [];
       }
-  -- "adding 18 to 22", and 40 before them
-  tests (adding a) w =
-      lines (
-      chainTests (a .chain)
-      ++ (materialTests (a .dialect) (a .material) ++ (idZero (a .id) ∷ idTaken ((recordOf (a .id) (w .table)) .used) ∷ tableFull (hasFree (w .table)) ∷ [])))
+  tests (adding a) w = lines (addTests a ((recordOf (a .id) (w .table)) .used) (hasFree (w .table)))
   -- "or answers 6 if there is none"
   tests (removing i) w = lines (otherSession ((recordOf i (w .table)) .used) ∷ [])
   tests (stepping i by) w = lines []

@@ -1,6 +1,6 @@
--- Right because each return is one way out of `foldAnswer`, and only the last touches the chain: its 64 bytes are the new value.
+-- Right because each return is one way out of the definition, and only the last touches the chain: its 64 bytes are the new value.
 -- Assumes nothing.
-use Rattle.preauth.proofs.FoldLaws.{refused-40, refused-23, left-out, folded, limits}
+use Rattle.preauth.proofs.FoldLaws.{refused-40, refused-23, left-out, folded-in, limits}
 use Rattle.octets.proofs.Paste.{paste-all}
 use borrow.Author.Tests.{not-true, not-false}
 use native.Mathlib.Omega.{arith}
@@ -40,7 +40,7 @@ returns-4 c =
     let next = c .before .before .before .before .before .next-value in
     let fits = sym (past .before .before .admits .ensures) ∙ not-false _ (past .before .if2 .left) in
     let value = c .before .before .copy .ensures ∙ paste-all v 0 (next .result) (omega (arith, slice-aggregate-copy (c .before .before .before))) ∙ next .ensures in
-    λ kind agrees. folded kind v (a .message .now) (past .before .before .before .if1 .left) fits _ (sym (agrees fits) ∙ not-false _ (past .if3 .left)) value
+    λ kind agrees. folded-in kind v (a .message .now) (past .before .before .before .if1 .left) fits _ (sym (agrees fits) ∙ not-false _ (past .if3 .left)) value
 
 pub fold-if-spec : {M : Type 1} → statement M
 fold-if-spec =

@@ -3,7 +3,7 @@ use kdf::derive_16;
 ghost use mathlib.Core.Path.{_≡_};
 ghost use Rattle.protocol.specs.Keys.{keys311, keys300, derivedKeys};
 ghost use Rattle.protocol.specs.Suite.{kdf};
-ghost use Rattle.keys.specs.Derivation.{of};
+ghost use Rattle.keys.specs.Reading.{keysOf};
 
 pub struct Keys {
     pub signing: [u8; 16],
@@ -14,7 +14,7 @@ pub struct Keys {
 
 // 3.1.1: the context is the chain value.
 fn keys_311(chain: &[u8], key: &[u8]) -> Keys
-    ensures { λ r. ⌜ of r ≡ keys311 kdf (now (chain .entry)) (now (key .entry)) ⌝ }
+    ensures { λ r. ⌜ keysOf r ≡ keys311 kdf (now (chain .entry)) (now (key .entry)) ⌝ }
 {
     let signing = derive_16(key, b"SMBSigningKey\0", chain);
     let application = derive_16(key, b"SMBAppKey\0", chain);
@@ -30,7 +30,7 @@ fn keys_311(chain: &[u8], key: &[u8]) -> Keys
 
 // 3.0 and 3.0.2: the contexts are fixed. "ServerIn " ends in a space.
 fn keys_300(key: &[u8]) -> Keys
-    ensures { λ r. ⌜ of r ≡ keys300 kdf (now (key .entry)) ⌝ }
+    ensures { λ r. ⌜ keysOf r ≡ keys300 kdf (now (key .entry)) ⌝ }
 {
     let signing = derive_16(key, b"SMB2AESCMAC\0", b"SmbSign\0");
     let application = derive_16(key, b"SMB2APP\0", b"SmbRpc\0");
@@ -45,7 +45,7 @@ fn keys_300(key: &[u8]) -> Keys
 }
 
 pub fn derived(dialect: u16, chain: &[u8], key: &[u8]) -> Keys
-    ensures { λ r. ⌜ of r ≡ derivedKeys kdf dialect (now (chain .entry)) (now (key .entry)) ⌝ }
+    ensures { λ r. ⌜ keysOf r ≡ derivedKeys kdf dialect (now (chain .entry)) (now (key .entry)) ⌝ }
 {
     if dialect == 0x0311 {
         keys_311(chain, key)

@@ -1,10 +1,10 @@
 -- Right because each call has the table's label, byte for byte, and the chain value.
 -- Assumes nothing.
 use Rattle.protocol.specs.Keys.{smbSigningKey, smbAppKey, smbC2SCipherKey, smbS2CCipherKey}
-use Rattle.keys.proofs.TableLaws.{key-is, same-keys}
+use Rattle.keys.proofs.LabelLaws.{key-is, same-keys}
 use borrow.Author.Needs.{needs}
-use Rattle.keys.proofs.table.keys_311.Statement.{statement}
-use Rattle.keys.proofs.table.keys_311.Tie as tie
+use Rattle.keys.proofs.labels.keys_311.Statement.{statement}
+use Rattle.keys.proofs.labels.keys_311.Tie as tie
 
 returns : tie.Need-returns
 unfolding smbSigningKey smbAppKey smbC2SCipherKey smbS2CCipherKey

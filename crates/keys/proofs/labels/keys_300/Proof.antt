@@ -1,10 +1,10 @@
 -- Right because each call has the table's label and context, byte for byte.
 -- Assumes nothing.
 use Rattle.protocol.specs.Keys.{smb2AesCmac, smb2App, smb2AesCcm, smbSign, smbRpc, serverIn, serverOut}
-use Rattle.keys.proofs.TableLaws.{key-is, same-keys}
+use Rattle.keys.proofs.LabelLaws.{key-is, same-keys}
 use borrow.Author.Needs.{needs}
-use Rattle.keys.proofs.table.keys_300.Statement.{statement}
-use Rattle.keys.proofs.table.keys_300.Tie as tie
+use Rattle.keys.proofs.labels.keys_300.Statement.{statement}
+use Rattle.keys.proofs.labels.keys_300.Tie as tie
 
 returns : tie.Need-returns
 unfolding smb2AesCmac smb2App smb2AesCcm smbSign smbRpc serverIn serverOut

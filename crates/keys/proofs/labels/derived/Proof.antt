@@ -1,10 +1,10 @@
 -- Right because 3.1.1 has one column of the table and every other dialect the other.
 -- Assumes nothing.
-use Rattle.keys.proofs.TableLaws.{derived-311, derived-300}
+use Rattle.keys.proofs.LabelLaws.{derived-311, derived-300}
 use mathlib.Core.Path.{sym, _∙_}
 use borrow.Author.Needs.{needs}
-use Rattle.keys.proofs.table.derived.Statement.{statement}
-use Rattle.keys.proofs.table.derived.Tie as tie
+use Rattle.keys.proofs.labels.derived.Statement.{statement}
+use Rattle.keys.proofs.labels.derived.Tie as tie
 
 keys-311-requires : tie.Need-keys-311-requires
 keys-311-requires c κs = search needs
