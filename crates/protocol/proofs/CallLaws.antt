@@ -1,11 +1,11 @@
 -- How a function makes a call: refused, it has changed nothing; done, it has done the call's effect.
 -- Assumes nothing.
-use mathlib.Core.Path.{_≡_, sym, ap, _∙_}
+use mathlib.Core.Path.{_≡_, refl, sym, ap, _∙_}
 use mathlib.Core.Bool.{true, false}
-use mathlib.Core.List.{List, []}
+use mathlib.Core.List.{List, [], _∷_}
 use Prim.Native.Nat.{ℕ}
 use Rattle.protocol.specs.Bytes.{Bytes}
-use Rattle.protocol.specs.Answer.{Answer, done, refused, answerNumber, isRefused, whenDone, Test, firstOf, judge}
+use Rattle.protocol.specs.Answer.{Answer, done, refused, answerNumber, isRefused, whenDone, Test, refuse_when_, firstOf, judge}
 use Rattle.protocol.specs.InnerHeader.{Envelope}
 use Rattle.protocol.specs.Compound.{walk}
 use Rattle.protocol.specs.Calls.{Call, Lent, Tests, carries, over, verdict, tests, effect, answer, left}
@@ -31,6 +31,12 @@ module _ (c : Call) (w : Lent) (a : Answer) (e : a ≡ answer suite c w) where
 -- the number of the answer
 pub returns-of : {c : Call} {w w′ : Lent} {a : Answer} → Makes c w a w′ → Returns c w (answerNumber a) w′
 returns-of m = record { number = ap answerNumber (m .answers); leaves = m .leaves }
+
+-- the number of lines alone
+pub number-lines : (ts : List Test) (k : ℕ) → answerNumber (judge ts (done k)) ≡ firstOf ts
+number-lines [] k = refl
+number-lines ((refuse n when true) ∷ ts) k = refl
+number-lines ((refuse n when false) ∷ ts) k = number-lines ts k
 
 -- ---- what is left, once the answer is known
 

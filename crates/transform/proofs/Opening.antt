@@ -29,7 +29,8 @@ use Rattle.protocol.proofs.First.{First, first-passed}
 use Rattle.protocol.proofs.FirstOf.{first-of-both, first-append}
 use Rattle.protocol.proofs.Judging.{refuses, passes, judge-passed, judge-append}
 use Rattle.protocol.proofs.SuiteLaws.{suite-sound}
-use Rattle.transform_header.specs.Reading.{headerIn, noHeader}
+use Rattle.transform_header.specs.Reading.{headerIn}
+use Rattle.transform_header.proofs.HeaderIn.{header-there}
 use Rattle.transform.specs.Steps.{Deciphered, Sized, sizeThenWalk, deciphered, OpensBody, OpensMessage}
 use Rattle.transform.proofs.Inner.{lent, back, when-inner}
 
@@ -103,11 +104,6 @@ module _ (cipher : ℕ) (key : Bytes) (e : Envelope) (m : Bytes) where
       }
 
 -- ---- the whole: c is what the connection agreed on
-
--- the header of a message that is long enough is read off it
-pub header-there : (m : Bytes) → 52 < length m → headerIn m ≡ headerOf m
-unfolding headerIn
-header-there m h = rw (le-ltb (length m) 52 (omega arith))
 
 module _ (c : Connection) (key : Bytes) (id : ℕ) (m : Bytes) where
   -- the lines before the tag

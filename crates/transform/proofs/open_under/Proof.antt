@@ -2,8 +2,9 @@
 use mathlib.Core.Path.{_∙_}
 use borrow.Author.Needs.{needs}
 use Rattle.connection.specs.Reading.{connectionOf}
+use Rattle.transform_header.proofs.HeaderIn.{header-there}
 use Rattle.transform.proofs.Inner.{sized}
-use Rattle.transform.proofs.Opening.{header-there, lines-chained, lines-refuse, lines-passed, message-opens}
+use Rattle.transform.proofs.Opening.{lines-chained, lines-refuse, lines-passed, message-opens}
 use Rattle.transform.proofs.open_under.Statement.{statement}
 use Rattle.transform.proofs.open_under.Tie as tie
 
