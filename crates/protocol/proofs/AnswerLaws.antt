@@ -22,6 +22,11 @@ pub when-part : {A B : Type 0} (f : A → B) (a : Answer) (x y : A) → f (whenD
 when-part f (done n) x y = refl
 when-part f (refused n) x y = refl
 
+pub when-two : {A B C : Type 0} (g : A → B → C) (a : Answer) (x y : A) (x′ y′ : B)
+    → g (whenDone a (λ n. x) y) (whenDone a (λ n. x′) y′) ≡ whenDone a (λ n. g x x′) (g y y′)
+when-two g (done n) x y x′ y′ = refl
+when-two g (refused n) x y x′ y′ = refl
+
 -- with nothing behind it an answer stays as it is
 pub after-nothing : (a : Answer) → judgeAfter a [] ≡ a
 after-nothing (done n) = refl

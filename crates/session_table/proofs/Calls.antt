@@ -38,27 +38,26 @@ use denote.Triple.Clauses.{Ended, Clauses, Lasts, closing, atExit}
 use denote.Triple.Entry.{Res, alive}
 use denote.Triple.Spec.{tripleOf}
 use denote.Triple.Statement.{Contract, Triple}
-use Rattle.session.specs.declared.Session.{Session}
-use Rattle.session.specs.Records.{free, isWanted, sessionOf}
-use Rattle.protocol.specs.SessionTable.{recordOf, changeRecord}
-use Rattle.protocol.specs.Transform.{counterStep}
-use Rattle.sessions.specs.Place.{first}
-use Rattle.sessions.specs.Reading.{tableOf}
-use Rattle.session.proofs.Session as T
-use Rattle.session.proofs.Session.Laws as T′
-use Rattle.sessions.proofs.Walk.{R, mach, record-owned}
-use Rattle.sessions.proofs.Said.{calls-said}
-use Rattle.sessions.proofs.Shared.{LentOut, lends-shared, shared-back}
-use Rattle.sessions.proofs.find as find
-use Rattle.sessions.proofs.find.Symbol.{name as #sessions·find}
-use Rattle.sessions.proofs.at as at
-use Rattle.sessions.proofs.at.Symbol.{name as #sessions·at}
-use Rattle.sessions.proofs.lookup as lookup
-use Rattle.sessions.proofs.lookup.Symbol.{name as #sessions·lookup}
-use Rattle.sessions.proofs.put_at as put-at
-use Rattle.sessions.proofs.put_at.Symbol.{name as #sessions·put-at}
-use Rattle.sessions.proofs.step as stepping
-use Rattle.sessions.proofs.step.Symbol.{name as #sessions·step}
+use Rattle.session_record.specs.declared.Session.{Session}
+use Rattle.session_record.specs.Reading.{free, isWanted, sessionOf}
+use Rattle.protocol.specs.SessionTable.{recordOf, changeRecord, counterStep}
+use Rattle.session_table.specs.Place.{first}
+use Rattle.session_table.specs.Reading.{tableOf}
+use Rattle.session_record.proofs.Session as T
+use Rattle.session_record.proofs.Session.Laws as T′
+use Rattle.session_table.proofs.Walk.{R, mach, record-owned}
+use Rattle.session_table.proofs.Said.{calls-said}
+use Rattle.session_table.proofs.Shared.{LentOut, lends-shared, shared-back}
+use Rattle.session_table.proofs.find as find
+use Rattle.session_table.proofs.find.Symbol.{name as #session-table·find}
+use Rattle.session_table.proofs.at as at
+use Rattle.session_table.proofs.at.Symbol.{name as #session-table·at}
+use Rattle.session_table.proofs.lookup as lookup
+use Rattle.session_table.proofs.lookup.Symbol.{name as #session-table·lookup}
+use Rattle.session_table.proofs.put_at as put-at
+use Rattle.session_table.proofs.put_at.Symbol.{name as #session-table·put-at}
+use Rattle.session_table.proofs.step as stepping
+use Rattle.session_table.proofs.step.Symbol.{name as #session-table·step}
 
 -- a slice of records at ((b, o), γ, ys), and its machine value
 abbrev pub ref-at : {X : Type 0} → ℕ → ℕ → GName → List X → RefT (List X)
@@ -171,24 +170,24 @@ module _ {M : Type 1} {𝓤 : URA M} {H : Heap 𝓤} {A : Atoms 𝓤} {K : Type 
 
 module _ {M : Type 1} {𝓤 : URA M} {H : Heap 𝓤} {A : Atoms 𝓤} {K : Type 0} {W : Given 𝓤 H A} {Γ : List (Item 𝓤)} {E : Env 𝓤 H} {C : Calls 𝓤 H} {Λ : Loops 𝓤 H} {post : Post 𝓤 H} {d : Place} {xs : List Operand} {rest : Body}
     (mem : Memory → SProp 𝓤) (run : Routine → Fun 𝓤) (κ : Lft) (q : Share) (b o : ℕ) (γ : GName) (ys : List Session) where
-  pub calls-find : K → FmC 𝓤 H (W .laws) C → Triple 𝓤 (C #sessions·find) (Finds 𝓤 H A mem run) → (used : Bool) (id : ℕ) → id < 2 ^ 64
+  pub calls-find : K → FmC 𝓤 H (W .laws) C → Triple 𝓤 (C #session-table·find) (Finds 𝓤 H A mem run) → (used : Bool) (id : ℕ) → id < 2 ^ 64
       → Opds K W (raw (Finds 𝓤 H A mem run .pre (to-find 𝓤 H A mem run κ q b o γ ys used id)) ∷ ‵ (Shr κ b o γ ys) ∷ Γ) E xs (sliceVal (b, o) (length ys) ∷ vbool used ∷ vint w64 id ∷ [])
       → ((r : ℕ) → r ≡ first (isWanted used id) ys → r < 2 ^ 64 → Seq K W (‵ (flft κ q) ∷ ‵ (Shr κ b o γ ys) ∷ Γ) (lands C Λ E d (vint w64 r) rest post))
-      → Seq K W (‵ (flft κ q) ∷ ‵ (Shr κ b o γ ys) ∷ Γ) (runs C Λ E (seq (call #sessions·find xs d) rest) post)
+      → Seq K W (‵ (flft κ q) ∷ ‵ (Shr κ b o γ ys) ∷ Γ) (runs C Λ E (seq (call #session-table·find xs d) rest) post)
   calls-find t fm known used id fits os k =
       calls-reading find.ended (find.clauses 𝓤 H A mem run) κ q b o γ ys (to-find 𝓤 H A mem run κ q b o γ ys used id) t fm known (asks-find 𝓤 H A mem run κ q b o γ ys W used id fits) (id⊢ 𝓤 _) (λ r. r ≡ first (isWanted used id) ys) (λ r ws. id⊢ 𝓤 _) (vint w64) (uint-tells w64) os (λ r e is. k r e (is .1))
 
-  pub calls-get : K → FmC 𝓤 H (W .laws) C → Triple 𝓤 (C #sessions·at) (Gets 𝓤 H A mem run) → (i : ℕ) → i < 2 ^ 64
+  pub calls-get : K → FmC 𝓤 H (W .laws) C → Triple 𝓤 (C #session-table·at) (Gets 𝓤 H A mem run) → (i : ℕ) → i < 2 ^ 64
       → Opds K W (raw (Gets 𝓤 H A mem run .pre (to-at 𝓤 H A mem run κ q b o γ ys i)) ∷ ‵ (Shr κ b o γ ys) ∷ Γ) E xs (sliceVal (b, o) (length ys) ∷ vint w64 i ∷ [])
       → ((s : Session) → s ≡ getD ys i free → Is R s (mach s ∷ []) → Seq K W (‵ (flft κ q) ∷ ‵ (Shr κ b o γ ys) ∷ Γ) (lands C Λ E d (mach s) rest post))
-      → Seq K W (‵ (flft κ q) ∷ ‵ (Shr κ b o γ ys) ∷ Γ) (runs C Λ E (seq (call #sessions·at xs d) rest) post)
+      → Seq K W (‵ (flft κ q) ∷ ‵ (Shr κ b o γ ys) ∷ Γ) (runs C Λ E (seq (call #session-table·at xs d) rest) post)
   calls-get t fm known i fits os k =
       calls-reading at.ended (at.clauses 𝓤 H A mem run) κ q b o γ ys (to-at 𝓤 H A mem run κ q b o γ ys i) t fm known (asks-at 𝓤 H A mem run κ q b o γ ys W i fits) (id⊢ 𝓤 _) (λ s. s ≡ getD ys i free) (λ r ws. id⊢ 𝓤 _) mach (LL.tells T.the-type T′.the-laws) os k
 
-  pub calls-put : K → FmC 𝓤 H (W .laws) C → Triple 𝓤 (C #sessions·put-at) (Puts 𝓤 H A mem run) → (i : ℕ) (s : Session) → i < 2 ^ 64 → Is R s (mach s ∷ [])
+  pub calls-put : K → FmC 𝓤 H (W .laws) C → Triple 𝓤 (C #session-table·put-at) (Puts 𝓤 H A mem run) → (i : ℕ) (s : Session) → i < 2 ^ 64 → Is R s (mach s ∷ [])
       → Opds K W (raw (Puts 𝓤 H A mem run .pre (to-put 𝓤 H A mem run κ q b o γ ys i s)) ∷ Γ) E xs (sliceVal (b, o) (length ys) ∷ vint w64 i ∷ mach s ∷ [])
       → ((zs : List Session) → zs ≡ set ys i s → length zs ≡ length ys → Seq K W (‵ (flft κ q) ∷ ‵ (finally R γ zs) ∷ Γ) (lands C Λ E d vunit rest post))
-      → Seq K W (‵ (flft κ q) ∷ ‵ (Mut κ b o γ ys) ∷ Γ) (runs C Λ E (seq (call #sessions·put-at xs d) rest) post)
+      → Seq K W (‵ (flft κ q) ∷ ‵ (Mut κ b o γ ys) ∷ Γ) (runs C Λ E (seq (call #session-table·put-at xs d) rest) post)
   calls-put t fm known i s fits is os k =
       use2 W (raw (Puts 𝓤 H A mem run .pre (to-put 𝓤 H A mem run κ q b o γ ys i s))) (asks-put 𝓤 H A mem run κ q b o γ ys W i s fits is) $
       calls-said put-at.ended (put-at.clauses 𝓤 H A mem run) t fm known (to-put 𝓤 H A mem run κ q b o γ ys i s) (λ r ws. ws .0 ≡ set ys i s) (λ r ws. id⊢ 𝓤 _) (λ _. vunit) (λ r vs p. p) os (λ r ws e is-v.
@@ -196,17 +195,17 @@ module _ {M : Type 1} {𝓤 : URA M} {H : Heap 𝓤} {A : Atoms 𝓤} {K : Type 
       -- [the last list; true; the token; …]
       move t (2 ∷ 0 ∷ 1 ∷ []) $ move t (2 ∷ []) $ drop t $ k (ws .0) e l))
 
-  pub calls-lookup : K → FmC 𝓤 H (W .laws) C → Triple 𝓤 (C #sessions·lookup) (Looks 𝓤 H A mem run) → (id : ℕ) → id < 2 ^ 64
+  pub calls-lookup : K → FmC 𝓤 H (W .laws) C → Triple 𝓤 (C #session-table·lookup) (Looks 𝓤 H A mem run) → (id : ℕ) → id < 2 ^ 64
       → Opds K W (raw (Looks 𝓤 H A mem run .pre (to-lookup 𝓤 H A mem run κ q b o γ ys id)) ∷ ‵ (Shr κ b o γ ys) ∷ Γ) E xs (sliceVal (b, o) (length ys) ∷ vint w64 id ∷ [])
       → ((s : Session) → sessionOf s ≡ recordOf id (tableOf ys) → Is R s (mach s ∷ []) → Seq K W (‵ (flft κ q) ∷ ‵ (Shr κ b o γ ys) ∷ Γ) (lands C Λ E d (mach s) rest post))
-      → Seq K W (‵ (flft κ q) ∷ ‵ (Shr κ b o γ ys) ∷ Γ) (runs C Λ E (seq (call #sessions·lookup xs d) rest) post)
+      → Seq K W (‵ (flft κ q) ∷ ‵ (Shr κ b o γ ys) ∷ Γ) (runs C Λ E (seq (call #session-table·lookup xs d) rest) post)
   calls-lookup t fm known id fits os k =
       calls-reading lookup.ended (lookup.clauses 𝓤 H A mem run) κ q b o γ ys (to-lookup 𝓤 H A mem run κ q b o γ ys id) t fm known (asks-lookup 𝓤 H A mem run κ q b o γ ys W id fits) (id⊢ 𝓤 _) (λ s. sessionOf s ≡ recordOf id (tableOf ys)) (λ r ws. id⊢ 𝓤 _) mach (LL.tells T.the-type T′.the-laws) os k
 
-  pub calls-step : K → FmC 𝓤 H (W .laws) C → Triple 𝓤 (C #sessions·step) (Moves 𝓤 H A mem run) → (id by : ℕ) → id < 2 ^ 64 → by < 2 ^ 64
+  pub calls-step : K → FmC 𝓤 H (W .laws) C → Triple 𝓤 (C #session-table·step) (Moves 𝓤 H A mem run) → (id by : ℕ) → id < 2 ^ 64 → by < 2 ^ 64
       → Opds K W (raw (Moves 𝓤 H A mem run .pre (to-step 𝓤 H A mem run κ q b o γ ys id by)) ∷ Γ) E xs (sliceVal (b, o) (length ys) ∷ vint w64 id ∷ vint w64 by ∷ [])
       → ((zs : List Session) → tableOf zs ≡ changeRecord (counterStep by) id (tableOf ys) → length zs ≡ length ys → Seq K W (‵ (flft κ q) ∷ ‵ (finally R γ zs) ∷ Γ) (lands C Λ E d vunit rest post))
-      → Seq K W (‵ (flft κ q) ∷ ‵ (Mut κ b o γ ys) ∷ Γ) (runs C Λ E (seq (call #sessions·step xs d) rest) post)
+      → Seq K W (‵ (flft κ q) ∷ ‵ (Mut κ b o γ ys) ∷ Γ) (runs C Λ E (seq (call #session-table·step xs d) rest) post)
   calls-step t fm known id by fits fits′ os k =
       use2 W (raw (Moves 𝓤 H A mem run .pre (to-step 𝓤 H A mem run κ q b o γ ys id by))) (asks-step 𝓤 H A mem run κ q b o γ ys W id by fits fits′) $
       calls-said stepping.ended (stepping.clauses 𝓤 H A mem run) t fm known (to-step 𝓤 H A mem run κ q b o γ ys id by) (λ r ws. tableOf (ws .0) ≡ changeRecord (counterStep by) id (tableOf ys)) (λ r ws. id⊢ 𝓤 _) (λ _. vunit) (λ r vs p. p) os (λ r ws e is-v.

@@ -8,9 +8,9 @@ use native.Mathlib.Numerals.{add-one}
 use native.Mathlib.Omega.{arith}
 use lib.ListN.{length, drop, getD}
 use lib.Seq.{drop-cons, drop-length}
-use Rattle.session.specs.declared.Session.{Session}
-use Rattle.session.specs.Records.{free, isWanted}
-use Rattle.sessions.specs.Place.{first}
+use Rattle.session_record.specs.declared.Session.{Session}
+use Rattle.session_record.specs.Reading.{free, isWanted}
+use Rattle.session_table.specs.Place.{first}
 
 -- the place of the session of an id, and of the first free record; or how many records there are
 abbrev pub placeOf : ℕ → List Session → ℕ

@@ -7,9 +7,8 @@ use Prim.Native.Nat.{ℕ, _+_, _<_, _≤_, _^_}
 use native.Mathlib.Omega.{arith}
 use borrow.Author.Tests.{le-leb, eqb-false}
 use lib.Dec.{eqb, leb}
-use Rattle.protocol.specs.SessionTable.{Session, isSession, recordOf, changeRecord, withCounter}
-use Rattle.protocol.specs.UnderKey.{lastCounter}
-use Rattle.protocol.specs.Transform.{countUp, counterStep}
+use Rattle.protocol.specs.Connection.{lastCounter}
+use Rattle.protocol.specs.SessionTable.{Session, isSession, recordOf, changeRecord, withCounter, countUp, counterStep}
 
 -- two changes that agree on the record that lookup takes
 pub change-alike : (f g : Session → Session) (id : ℕ) (t : List Session) → f (recordOf id t) ≡ g (recordOf id t) → changeRecord f id t ≡ changeRecord g id t

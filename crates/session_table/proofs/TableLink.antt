@@ -10,12 +10,12 @@ use native.Mathlib.Nat.{zero-lt-suc}
 use borrow.Author.Tests.{lt-ltb}
 use lib.ListN.{length, getD, set}
 use lib.Dec.{ltb, isLe}
-use Rattle.session.specs.declared.Session.{Session}
-use Rattle.session.specs.Records.{free, isWanted, sessionOf}
-use Rattle.sessions.specs.Place.{first}
+use Rattle.session_record.specs.declared.Session.{Session}
+use Rattle.session_record.specs.Reading.{free, isWanted, sessionOf}
+use Rattle.session_table.specs.Place.{first}
 use Rattle.protocol.specs.SessionTable as model
-use Rattle.sessions.specs.Reading.{tableOf}
-use Rattle.sessions.proofs.PlaceLaws.{placeOf, freePlace}
+use Rattle.session_table.specs.Reading.{tableOf}
+use Rattle.session_table.proofs.PlaceLaws.{placeOf, freePlace}
 
 pub reads : (id : ℕ) (t : List Session) → model.recordOf id (tableOf t) ≡ sessionOf (getD t (placeOf id t) free)
 unfolding first

@@ -13,26 +13,26 @@ use denote.Laws.{Is}
 use denote.Steps.{owned}
 use denote.Struct.Laws as LL
 use denote.Enum.Laws as EL
-use Rattle.session.specs.declared.Connection.{Connection}
-use Rattle.session.specs.declared.Changed.{Changed}
-use Rattle.compound.specs.declared.Outcome.{Outcome}
-use Rattle.session.proofs.Connection as Cn
-use Rattle.session.proofs.Connection.Laws as Cn′
-use Rattle.session.proofs.Changed as Ch
-use Rattle.session.proofs.Changed.Laws as Ch′
-use Rattle.compound.proofs.Outcome as An
-use Rattle.compound.proofs.Outcome.Laws as An′
+use Rattle.connection.specs.declared.Connection.{Connection}
+use Rattle.session_record.specs.declared.Changed.{Changed}
+use Rattle.answer.specs.declared.Answer.{Answer}
+use Rattle.connection.proofs.Connection as Cn
+use Rattle.connection.proofs.Connection.Laws as Cn′
+use Rattle.session_record.proofs.Changed as Ch
+use Rattle.session_record.proofs.Changed.Laws as Ch′
+use Rattle.answer.proofs.Answer as An
+use Rattle.answer.proofs.Answer.Laws as An′
 
 abbrev pub ConnectionT : RattleType
 ConnectionT = Cn.the-row
 
-abbrev pub OutcomeT : RattleType
-OutcomeT = An.the-row
+abbrev pub AnswerT : RattleType
+AnswerT = An.the-row
 
 abbrev pub mach-c : Connection → Val
 mach-c c = LL.val Cn.the-type Cn′.the-laws c
 
-abbrev pub mach-a : Outcome → Val
+abbrev pub mach-a : Answer → Val
 mach-a r = EL.val An.the-type An′.the-laws r
 
 abbrev pub mach-t : Changed → Val
@@ -42,8 +42,8 @@ module _ {M : Type 1} {𝓤 : URA M} {H : Heap 𝓤} {A : Atoms 𝓤} (W : Given
   pub connection-typed : (c : Connection) → Is ConnectionT c (mach-c c ∷ []) → Holds (hasTy Cn′.mir (mach-c c)) × WT (mach-c c)
   connection-typed c is = LL.lawful Cn.the-type Cn′.the-laws 𝓤 H A W .typed c _ is .0
 
-  pub outcome-typed : (r : Outcome) → Is OutcomeT r (mach-a r ∷ []) → Holds (hasTy An′.mir (mach-a r)) × WT (mach-a r)
-  outcome-typed r is = EL.lawful An.the-type An′.the-laws 𝓤 H A W tt .typed r _ is .0
+  pub answer-typed : (r : Answer) → Is AnswerT r (mach-a r ∷ []) → Holds (hasTy An′.mir (mach-a r)) × WT (mach-a r)
+  answer-typed r is = EL.lawful An.the-type An′.the-laws 𝓤 H A W tt .typed r _ is .0
 
   pub changed-typed : (t : Changed) → Is Ch.the-row t (mach-t t ∷ []) → Holds (hasTy Ch′.mir (mach-t t)) × WT (mach-t t)
   changed-typed t is = LL.lawful Ch.the-type Ch′.the-laws 𝓤 H A W .typed t _ is .0
@@ -52,5 +52,5 @@ module _ {M : Type 1} {𝓤 : URA M} {H : Heap 𝓤} {A : Atoms 𝓤} {K : Type 
   pub connection-owned : K → (c : Connection) (v : Val) → Is ConnectionT c (v ∷ []) → Step K W (‵ (ConnectionT .own c (v ∷ [])) ∷ Γ) G Γ G
   connection-owned t c v is = owned t ConnectionT (Is ConnectionT) (LL.makes Cn.the-type Cn′.the-plain 𝓤 H A) c (v ∷ []) is
 
-  pub outcome-owned : K → (r : Outcome) (v : Val) → Is OutcomeT r (v ∷ []) → Step K W (‵ (OutcomeT .own r (v ∷ [])) ∷ Γ) G Γ G
-  outcome-owned t r v is = owned t OutcomeT (Is OutcomeT) (EL.makes An.the-type An′.the-plain 𝓤 H A) r (v ∷ []) is
+  pub answer-owned : K → (r : Answer) (v : Val) → Is AnswerT r (v ∷ []) → Step K W (‵ (AnswerT .own r (v ∷ [])) ∷ Γ) G Γ G
+  answer-owned t r v is = owned t AnswerT (Is AnswerT) (EL.makes An.the-type An′.the-plain 𝓤 H A) r (v ∷ []) is

@@ -30,10 +30,10 @@ use denote.Memory.{mem, shares, cellAt, pointee}
 use denote.Index.{place, others, row, elem-out, looks-slice}
 use denote.Steps.{owned}
 use denote.Struct.Laws as LL
-use Rattle.session.specs.declared.Session.{Session}
-use Rattle.session.specs.Records.{free}
-use Rattle.session.proofs.Session as T
-use Rattle.session.proofs.Session.Laws as T′
+use Rattle.session_record.specs.declared.Session.{Session}
+use Rattle.session_record.specs.Reading.{free}
+use Rattle.session_record.proofs.Session as T
+use Rattle.session_record.proofs.Session.Laws as T′
 
 abbrev pub R : RattleType
 R = T.the-row

@@ -4,8 +4,8 @@ use mathlib.Core.Bool.{Bool, cond}
 use mathlib.Core.List.{List, [], _∷_}
 use Prim.Native.Nat.{ℕ, suc}
 use lib.ListN.{getD, set}
-use Rattle.session.specs.declared.Session.{Session}
-use Rattle.session.specs.Records.{free}
+use Rattle.session_record.specs.declared.Session.{Session}
+use Rattle.session_record.specs.Reading.{free}
 
 -- the place of the first record that p holds of, or how many there are
 unfoldable pub first : (Session → Bool) → List Session → ℕ

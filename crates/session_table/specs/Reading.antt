@@ -2,8 +2,8 @@
 -- Assumes nothing.
 use mathlib.Core.List.{List, map}
 use Rattle.protocol.specs.SessionTable as protocol
-use Rattle.session.specs.declared.Session.{Session}
-use Rattle.session.specs.Records.{sessionOf}
+use Rattle.session_record.specs.declared.Session.{Session}
+use Rattle.session_record.specs.Reading.{sessionOf}
 
 abbrev pub tableOf : List Session → List protocol.Session
 tableOf t = map sessionOf t

@@ -1,18 +1,19 @@
 // The session table: a run of records that the caller lends (document 01, "Keys" and the numbers 1 to 22). Each public function is a
 // straight line of calls; what there is to decide about one record is in `session`, which takes it by value.
-use compound::Outcome;
-use session::Adding;
-use session::Connection;
-use session::Session;
+use answer::Answer;
+use connection::Connection;
+use session_record::Adding;
+use session_record::Session;
 ghost use mathlib.Core.Path.{_≡_};
-ghost use Rattle.protocol.specs.SessionTable.{recordOf, changeRecord, removeNumber, tableAfterRemoving};
-ghost use Rattle.protocol.specs.Transform.{counterStep};
-ghost use Rattle.compound.specs.Outcomes.{answerOf};
-ghost use Rattle.session.specs.Records.{isWanted, sessionOf, connectionOf};
-ghost use Rattle.session.specs.Adds.{addingOf};
-ghost use Rattle.sessions.specs.Reading.{tableOf};
-ghost use Rattle.sessions.specs.Place.{first, recordAt, putAt};
-ghost use Rattle.sessions.specs.Calls.{AddsInTable, SealsInTable, OpensInTable};
+ghost use Rattle.protocol.specs.SessionTable.{recordOf, changeRecord, counterStep};
+ghost use Rattle.protocol.specs.Calls.{adding, removing, sealing, opening, onlyTable, messageAndTable};
+ghost use Rattle.protocol.specs.Contract.{Makes, Returns};
+ghost use Rattle.answer.specs.Reading.{answerOf};
+ghost use Rattle.connection.specs.Reading.{connectionOf};
+ghost use Rattle.session_record.specs.Reading.{isWanted, sessionOf};
+ghost use Rattle.session_record.specs.Adds.{addingOf};
+ghost use Rattle.session_table.specs.Reading.{tableOf};
+ghost use Rattle.session_table.specs.Place.{first, recordAt, putAt};
 
 // The place of the first record that is wanted, or the table's length where there is none.
 fn find(table: &[Session], used: bool, id: u64) -> usize
@@ -20,7 +21,7 @@ fn find(table: &[Session], used: bool, id: u64) -> usize
 {
     let mut i = 0;
     while i < table.len() {
-        let hit = session::wanted(table[i], used, id);
+        let hit = session_record::wanted(table[i], used, id);
         if hit {
             return i;
         }
@@ -36,7 +37,7 @@ fn at(table: &[Session], i: usize) -> Session
     if i < table.len() {
         table[i]
     } else {
-        session::vacant()
+        session_record::vacant()
     }
 }
 
@@ -63,52 +64,51 @@ pub fn step(table: &mut [Session], id: u64, by: u64)
 {
     let i = find(table, true, id);
     let s = at(table, i);
-    let t = session::step_record(s, by);
+    let t = session_record::step_record(s, by);
     put_at(table, i, t);
 }
 
 // Adds a session of a new id in the first free record: 40, 18 to 22, or 0. Refused, the table is as it was lent.
 pub fn add(table: &mut [Session], a: Adding, material: &[u8], chain: &[u8]) -> u32
-    ensures { λ r. ⌜ AddsInTable (addingOf a (now (chain .entry)) (now (material .entry))) (tableOf (now (table .entry))) (tableOf (now (table .exit))) r ⌝ }
+    ensures { λ r. ⌜ Returns (adding (addingOf a (now (chain .entry)) (now (material .entry)))) (onlyTable (tableOf (now (table .entry)))) r (onlyTable (tableOf (now (table .exit)))) ⌝ }
 {
     let i = find(table, true, a.id);
     let there = at(table, i);
     let f = find(table, false, 0);
     let old = at(table, f);
     let room = f < table.len();
-    let r = session::add_record(a, there, old, room, material, chain);
+    let r = session_record::add_record(a, there, old, room, material, chain);
     put_at(table, f, r.session);
     r.number
 }
 
 // Takes the session of the id out, its keys with it: 6, or 0.
 pub fn remove(table: &mut [Session], id: u64) -> u32
-    ensures { λ r. ⌜ (r ≡ removeNumber id (tableOf (now (table .entry))))
-        × (tableOf (now (table .exit)) ≡ tableAfterRemoving id (tableOf (now (table .entry)))) ⌝ }
+    ensures { λ r. ⌜ Returns (removing id) (onlyTable (tableOf (now (table .entry)))) r (onlyTable (tableOf (now (table .exit)))) ⌝ }
 {
     let i = find(table, true, id);
     let s = at(table, i);
-    let r = session::remove_record(s);
+    let r = session_record::remove_record(s);
     put_at(table, i, r.session);
     r.number
 }
 
 // Seals the message in place for the session of the id: 1, 2, 3, 6, 7, 8, 11 to 16, 17. Refused, message and table are as they were lent.
-pub fn seal(table: &mut [Session], c: Connection, id: u64, message: &mut [u8]) -> Outcome
-    ensures { λ r. ⌜ SealsInTable (connectionOf c) id (now (message .entry)) (now (message .exit)) (tableOf (now (table .entry))) (tableOf (now (table .exit))) (answerOf r) ⌝ }
+pub fn seal(table: &mut [Session], c: Connection, id: u64, message: &mut [u8]) -> Answer
+    ensures { λ r. ⌜ Makes (sealing (connectionOf c) id) (messageAndTable (now (message .entry)) (tableOf (now (table .entry)))) (answerOf r) (messageAndTable (now (message .exit)) (tableOf (now (table .exit)))) ⌝ }
 {
     let s = lookup(table, id);
-    let out = session::seal_record(s, c, id, message);
-    let moves = session::counter_moves(out);
+    let out = session_record::seal_record(s, c, id, message);
+    let moves = session_record::counter_moves(out);
     step(table, id, moves);
     out
 }
 
 // Opens the message in place with the session that its header names: 1 to 16. Refused, the message is as it was lent.
-pub fn open(table: &[Session], c: Connection, message: &mut [u8]) -> Outcome
-    ensures { λ r. ⌜ OpensInTable (connectionOf c) (now (message .entry)) (now (message .exit)) (tableOf (now (table .entry))) (answerOf r) ⌝ }
+pub fn open(table: &[Session], c: Connection, message: &mut [u8]) -> Answer
+    ensures { λ r. ⌜ Makes (opening (connectionOf c)) (messageAndTable (now (message .entry)) (tableOf (now (table .entry)))) (answerOf r) (messageAndTable (now (message .exit)) (tableOf (now (table .entry)))) ⌝ }
 {
-    let id = session::session_id(message);
+    let id = session_record::session_id(message);
     let s = lookup(table, id);
-    session::open_record(s, c, message)
+    session_record::open_record(s, c, message)
 }

@@ -1,42 +1,43 @@
 -- Right because the place written is the first free one, and what goes there is the new record, or what stood there where a test refuses. A walk of the MIR, by hand: the table is lent as `&` for two searches, comes back, and goes to `put_at` for good; `add_record` has a copy of each of the two `&[u8]`.
 -- Assumes nothing.
-use Rattle.sessions.proofs.Kit.{_≡_, refl, ℕ, Bool, true, false, List, [], _∷_, length, ltb, lit<, URA, fullShare, named, Val, vbool, SProp, ent, sep, emp, via, id⊢, fst∗, Lft, GName, Share, ftrue, flft, Memory, Routine, Heap, Calls, Loops, WpFn, Tables, Atoms, sem, Fun, givenOf, tables, tablesOf, Given, ‵, raw, _⊛_, ⋆, _$_, _∵_, !, qed, by, move, keep, drop, use1, use2, split, join, fsplit, fjoin, suffices, frame, done, whole, sub, look-in, look, init, stop, fld, from, load, lit, true-lit, false-lit, of-opd, bin, assigns, land, no-more, and-then, returns, enter, alloc1, alloc0, params1, pass1, pass0, FmC, fmOf, WpFn-mono, owns, Is, Boolean, bool-makes, uint-makes, uint-lawful, u8, RefT, now, sliceVal, MutSlice, ShrSlice, Room, finally, slice-vals, mut-slice-tells, shr-slice-tells, shr-slice-copy, plain, owned, nothing, Vals, onEntry, Meets, tripleOf, Contract, Triple, entered, cited, says, Stays, stay-none, stay-none-slice, gave-slice, walkOf, goes-none, goes-none-slice, goes-gave-slice, ends-at, walked, walk-meets, yes, u32, w32}
+use Rattle.session_table.proofs.Kit.{_≡_, refl, ℕ, Bool, true, false, List, [], _∷_, length, ltb, lit<, URA, fullShare, named, Val, vbool, SProp, ent, sep, emp, via, id⊢, fst∗, Lft, GName, Share, ftrue, flft, Memory, Routine, Heap, Calls, Loops, WpFn, Tables, Atoms, sem, Fun, givenOf, tables, tablesOf, Given, ‵, raw, _⊛_, ⋆, _$_, _∵_, !, qed, by, move, keep, drop, use1, use2, split, join, fsplit, fjoin, suffices, frame, done, whole, sub, look-in, look, init, stop, fld, from, load, lit, true-lit, false-lit, of-opd, bin, assigns, land, no-more, and-then, returns, enter, alloc1, alloc0, params1, pass1, pass0, FmC, fmOf, WpFn-mono, owns, Is, Boolean, bool-makes, uint-makes, uint-lawful, u8, RefT, now, sliceVal, MutSlice, ShrSlice, Room, finally, slice-vals, mut-slice-tells, shr-slice-tells, shr-slice-copy, plain, owned, nothing, Vals, onEntry, Meets, tripleOf, Contract, Triple, entered, cited, says, Stays, stay-none, stay-none-slice, gave-slice, walkOf, goes-none, goes-none-slice, goes-gave-slice, ends-at, walked, walk-meets, yes, u32, w32}
 use denote.Struct.Laws as LL
-use Rattle.session.specs.declared.Session.{Session}
-use Rattle.session.specs.declared.Changed.{Changed}
-use Rattle.session.specs.declared.Adding.{Adding}
-use Rattle.session.specs.Records.{sessionOf}
-use Rattle.session.specs.Adds.{addingOf, AddsWith}
-use Rattle.sessions.specs.Reading.{tableOf}
-use Rattle.sessions.specs.Calls.{AddsInTable}
-use Rattle.sessions.proofs.TableCalls.{added-says}
-use Rattle.session.proofs.Changed as Ch
-use Rattle.session.proofs.Changed.Laws as Ch′
-use Rattle.session.proofs.Adding as Ad
-use Rattle.session.proofs.Adding.Laws as Ad′
-use Rattle.sessions.proofs.Walk.{R, mach, typed, record-owned}
-use Rattle.sessions.proofs.Values.{mach-t, changed-typed}
-use Rattle.sessions.proofs.Leaving.{leaves, holds}
-use Rattle.sessions.proofs.Operands.{local, reborrows}
-use Rattle.sessions.proofs.Said.{calls-said}
-use Rattle.sessions.proofs.Calls.{ref-at, lend, back, Finds, Gets, Puts, calls-find, calls-get, calls-put}
-use Rattle.sessions.proofs.find.Symbol as find-def
-use Rattle.sessions.proofs.find.Symbol.{name as #sessions·find}
-use Rattle.sessions.proofs.find.Met as find-thm
-use Rattle.sessions.proofs.at.Symbol as at-def
-use Rattle.sessions.proofs.at.Symbol.{name as #sessions·at}
-use Rattle.sessions.proofs.at.Met as at-thm
-use Rattle.sessions.proofs.put_at.Symbol as put-at-def
-use Rattle.sessions.proofs.put_at.Symbol.{name as #sessions·put-at}
-use Rattle.sessions.proofs.put_at.Met as put-at-thm
-use Rattle.session.proofs.add_record as add-record
-use Rattle.session.proofs.add_record.Symbol as add-record-def
-use Rattle.session.proofs.add_record.Symbol.{name as #session·add-record}
-use Rattle.session.proofs.add_record.Met as add-record-thm
-use Rattle.sessions.proofs.add.Key.{name as #sessions·add}
-use Rattle.sessions.proofs.add as add
-use Rattle.sessions.proofs.add.Statement as stated
-use Rattle.sessions.proofs.add.Code as code
+use Rattle.session_record.specs.declared.Session.{Session}
+use Rattle.session_record.specs.declared.Changed.{Changed}
+use Rattle.session_record.specs.declared.Adding.{Adding}
+use Rattle.session_record.specs.Reading.{sessionOf}
+use Rattle.session_record.specs.Adds.{addingOf, AddsWith}
+use Rattle.session_table.specs.Reading.{tableOf}
+use Rattle.protocol.specs.Calls.{adding, onlyTable}
+use Rattle.protocol.specs.Contract.{Returns}
+use Rattle.session_table.proofs.TableCalls.{added-says}
+use Rattle.session_record.proofs.Changed as Ch
+use Rattle.session_record.proofs.Changed.Laws as Ch′
+use Rattle.session_record.proofs.Adding as Ad
+use Rattle.session_record.proofs.Adding.Laws as Ad′
+use Rattle.session_table.proofs.Walk.{R, mach, typed, record-owned}
+use Rattle.session_table.proofs.Values.{mach-t, changed-typed}
+use Rattle.session_table.proofs.Leaving.{leaves, holds}
+use Rattle.session_table.proofs.Operands.{local, reborrows}
+use Rattle.session_table.proofs.Said.{calls-said}
+use Rattle.session_table.proofs.Calls.{ref-at, lend, back, Finds, Gets, Puts, calls-find, calls-get, calls-put}
+use Rattle.session_table.proofs.find.Symbol as find-def
+use Rattle.session_table.proofs.find.Symbol.{name as #session-table·find}
+use Rattle.session_table.proofs.find.Met as find-thm
+use Rattle.session_table.proofs.at.Symbol as at-def
+use Rattle.session_table.proofs.at.Symbol.{name as #session-table·at}
+use Rattle.session_table.proofs.at.Met as at-thm
+use Rattle.session_table.proofs.put_at.Symbol as put-at-def
+use Rattle.session_table.proofs.put_at.Symbol.{name as #session-table·put-at}
+use Rattle.session_table.proofs.put_at.Met as put-at-thm
+use Rattle.session_record.proofs.add_record as add-record
+use Rattle.session_record.proofs.add_record.Symbol as add-record-def
+use Rattle.session_record.proofs.add_record.Symbol.{name as #session-record·add-record}
+use Rattle.session_record.proofs.add_record.Met as add-record-thm
+use Rattle.session_table.proofs.add.Key.{name as #session-table·add}
+use Rattle.session_table.proofs.add as add
+use Rattle.session_table.proofs.add.Statement as stated
+use Rattle.session_table.proofs.add.Code as code
 
 abbrev stayed : Stays (add.ended .signature .params) (add.ended .kept)
 stayed = (gave-slice (0 ∷ []) tt (plain (λ _. R)), (stay-none (λ _. Ad.the-row) yes, (stay-none-slice (1 ∷ []) tt (plain (λ _. u8)) yes, (stay-none-slice (2 ∷ []) tt (plain (λ _. u8)) yes, tt))))
@@ -78,7 +79,7 @@ module _ {M : Type 1} (𝓤 : URA M) (H : Heap 𝓤) (A : Atoms 𝓤) (W : Given
   abbrev Post : Val → SProp 𝓤
   Post = walkOf 𝓤 H A add.ended stayed (add.clauses 𝓤 H A mem run) .post (((κ, (μ₁, (μ₂, tt))), (q, (p₁, (p₂, tt))), tt, a, vals), tt)
 
-  exits : (r : ℕ) (v : Val) (zs : List Session) → Is u32 r (v ∷ []) → length zs ≡ length ys → AddsInTable (addingOf x cs ms) (tableOf ys) (tableOf zs) r
+  exits : (r : ℕ) (v : Val) (zs : List Session) → Is u32 r (v ∷ []) → length zs ≡ length ys → Returns (adding (addingOf x cs ms)) (onlyTable (tableOf ys)) r (onlyTable (tableOf zs))
       → ent 𝓤 (⋆ 𝓤 H A (‵ (flft κ q) ∷ ‵ (flft μ₁ p₁) ∷ ‵ (flft μ₂ p₂) ∷ ‵ (finally R γ zs) ∷ ‵ (ShrSlice (named 1) μ₁ u8 .own (ref-at b₁ o₁ γ₁ ms) (sliceVal (b₁, o₁) (length ms) ∷ [])) ∷ ‵ (ShrSlice (named 2) μ₂ u8 .own (ref-at b₂ o₂ γ₂ cs) (sliceVal (b₂, o₂) (length cs) ∷ [])) ∷ [])) (Post v)
   exits r v zs is lz said =
       qed W (‵ (flft κ q) ∷ ‵ (flft μ₁ p₁) ∷ ‵ (flft μ₂ p₂) ∷ ‵ (finally R γ zs) ∷ ‵ (ShrSlice (named 1) μ₁ u8 .own (ref-at b₁ o₁ γ₁ ms) (sliceVal (b₁, o₁) (length ms) ∷ [])) ∷ ‵ (ShrSlice (named 2) μ₂ u8 .own (ref-at b₂ o₂ γ₂ cs) (sliceVal (b₂, o₂) (length cs) ∷ [])) ∷ []) ∵
@@ -88,7 +89,7 @@ module _ {M : Type 1} (𝓤 : URA M) (H : Heap 𝓤) (A : Atoms 𝓤) (W : Given
       nothing ! $ move ! (3 ∷ 0 ∷ []) $ fjoin ! $ move ! (2 ∷ 0 ∷ []) $ fjoin ! $ owned ! Ad.the-row (Is Ad.the-row) (LL.makes Ad.the-type Ad′.the-plain 𝓤 H A) x _ gx $ fjoin ! $ move ! (1 ∷ 0 ∷ []) $ fjoin ! $ frame ! $
       owned ! u32 (Is u32) (uint-makes 𝓤 H A W w32) r _ is $ done !
 
-  module _ (C : Calls 𝓤 H) (Λ : Loops 𝓤 H) (fm : FmC 𝓤 H (W .laws) C) (kf : Triple 𝓤 (C #sessions·find) (Finds 𝓤 H A mem run)) (kg : Triple 𝓤 (C #sessions·at) (Gets 𝓤 H A mem run)) (ka : Triple 𝓤 (C #session·add-record) (Adds 𝓤 H A mem run)) (kp : Triple 𝓤 (C #sessions·put-at) (Puts 𝓤 H A mem run)) where
+  module _ (C : Calls 𝓤 H) (Λ : Loops 𝓤 H) (fm : FmC 𝓤 H (W .laws) C) (kf : Triple 𝓤 (C #session-table·find) (Finds 𝓤 H A mem run)) (kg : Triple 𝓤 (C #session-table·at) (Gets 𝓤 H A mem run)) (ka : Triple 𝓤 (C #session-record·add-record) (Adds 𝓤 H A mem run)) (kp : Triple 𝓤 (C #session-table·put-at) (Puts 𝓤 H A mem run)) where
     walk : ent 𝓤 (onEntry 𝓤 H A add.signature (κ, (μ₁, (μ₂, tt))) (q, (p₁, (p₂, tt))) a vals) (WpFn 𝓤 H C Λ code.function (sl ∷ mach-x x ∷ ml ∷ cl ∷ []) Post)
     walk =
         qed W ((‵ (flft κ q) ⊛ (‵ (flft μ₁ p₁) ⊛ (‵ (flft μ₂ p₂) ⊛ ‵ ftrue))) ∷ ‵ (owns (MutSlice (named 0) κ R ∷ Ad.the-row ∷ ShrSlice (named 1) μ₁ u8 ∷ ShrSlice (named 2) μ₂ u8 ∷ []) a vals) ∷ []) ∵ enter ! C Λ code.function (sl ∷ mach-x x ∷ ml ∷ cl ∷ []) _ $
@@ -130,7 +131,7 @@ module _ {M : Type 1} (𝓤 : URA M) (H : Heap 𝓤) (A : Atoms 𝓤) (W : Given
         returns ! (look ! 50 refl) $ leaves ! 6 (holds _ ∷ holds _ ∷ holds _ ∷ holds _ ∷ holds _ ∷ holds _ ∷ holds _ ∷ holds _ ∷ holds _ ∷ holds _ ∷ holds _ ∷ holds _ ∷ holds _ ∷ holds _ ∷ holds _ ∷ holds _ ∷ holds _ ∷ holds _ ∷ holds _ ∷ holds _ ∷ holds _ ∷ holds _ ∷ holds _ ∷ []) refl $
         keep ! (0 ∷ 2 ∷ 3 ∷ 1 ∷ 4 ∷ 5 ∷ []) $ by ! (exits (t .number) _ zs (parts .0) lz (added-says ys zs x ms cs i f there old t e e′ ef eo et ez))))))))))))))))))))))))))))))))
 
-add-meets : {M : Type 1} (𝓤 : URA M) (H : Heap 𝓤) (A : Atoms 𝓤) (W : Given 𝓤 H A) (mem : Memory → SProp 𝓤) (run : Routine → Fun 𝓤) (𝓣 : Tables 𝓤 H) → Triple 𝓤 (𝓣 .C #sessions·find) (Finds 𝓤 H A mem run) → Triple 𝓤 (𝓣 .C #sessions·at) (Gets 𝓤 H A mem run) → Triple 𝓤 (𝓣 .C #session·add-record) (Adds 𝓤 H A mem run) → Triple 𝓤 (𝓣 .C #sessions·put-at) (Puts 𝓤 H A mem run) → Meets 𝓤 H A add.signature (WpFn 𝓤 H (𝓣 .C) (𝓣 .Λ) code.function) (add.spec 𝓤 H A mem run)
+add-meets : {M : Type 1} (𝓤 : URA M) (H : Heap 𝓤) (A : Atoms 𝓤) (W : Given 𝓤 H A) (mem : Memory → SProp 𝓤) (run : Routine → Fun 𝓤) (𝓣 : Tables 𝓤 H) → Triple 𝓤 (𝓣 .C #session-table·find) (Finds 𝓤 H A mem run) → Triple 𝓤 (𝓣 .C #session-table·at) (Gets 𝓤 H A mem run) → Triple 𝓤 (𝓣 .C #session-record·add-record) (Adds 𝓤 H A mem run) → Triple 𝓤 (𝓣 .C #session-table·put-at) (Puts 𝓤 H A mem run) → Meets 𝓤 H A add.signature (WpFn 𝓤 H (𝓣 .C) (𝓣 .Λ) code.function) (add.spec 𝓤 H A mem run)
 add-meets 𝓤 H A W mem run 𝓣 kf kg ka kp =
     walk-meets 𝓤 H A add.ended stayed W (goes-gave-slice 𝓤 H A W 3 0 tt (plain (λ _. R)), (goes-none 𝓤 H A W 3 (λ _. Ad.the-row) yes (λ κs x f. refl), (goes-none-slice 𝓤 H A W 3 (1 ∷ []) tt (plain (λ _. u8)) yes, (goes-none-slice 𝓤 H A W 3 (2 ∷ []) tt (plain (λ _. u8)) yes, tt)))) (add.clauses 𝓤 H A mem run)
     (WpFn 𝓤 H (𝓣 .C) (𝓣 .Λ) code.function) (WpFn-mono 𝓤 H (W .laws) 𝓣 code.function)
@@ -142,9 +143,9 @@ pub add-spec : {M : Type 1} → stated.statement M
 unfolding code.routine tablesOf
 add-spec 𝓤 H 𝓜 𝓖 𝓡 =
     entered 𝓤 H (tripleOf 𝓤 H (𝓖 .A) add.signature (add.spec 𝓤 H (𝓖 .A) (𝓜 .mem) (𝓡 .run)))
-    (tables 𝓤 H 𝓜 𝓡 code.env .C) (tables 𝓤 H 𝓜 𝓡 code.env .Λ) #sessions·add code.function (code.unfolded 𝓤 H 𝓜 𝓡)
+    (tables 𝓤 H 𝓜 𝓡 code.env .C) (tables 𝓤 H 𝓜 𝓡 code.env .Λ) #session-table·add code.function (code.unfolded 𝓤 H 𝓜 𝓡)
     (add-meets 𝓤 H (𝓖 .A) (givenOf 𝓤 H 𝓜 𝓖) (𝓜 .mem) (𝓡 .run) (tablesOf 𝓤 H 𝓜 (tables 𝓤 H 𝓜 𝓡 code.env))
-    (cited 𝓤 H (Finds 𝓤 H (𝓖 .A) (𝓜 .mem) (𝓡 .run)) 𝓜 𝓡 code.env #sessions·find find-def.routine code.calls-sessions·find (find-thm.met 𝓤 H 𝓜 𝓖 𝓡))
-    (cited 𝓤 H (Gets 𝓤 H (𝓖 .A) (𝓜 .mem) (𝓡 .run)) 𝓜 𝓡 code.env #sessions·at at-def.routine code.calls-sessions·at (at-thm.met 𝓤 H 𝓜 𝓖 𝓡))
-    (cited 𝓤 H (Adds 𝓤 H (𝓖 .A) (𝓜 .mem) (𝓡 .run)) 𝓜 𝓡 code.env #session·add-record add-record-def.routine code.calls-session·add-record (add-record-thm.met 𝓤 H 𝓜 𝓖 𝓡))
-    (cited 𝓤 H (Puts 𝓤 H (𝓖 .A) (𝓜 .mem) (𝓡 .run)) 𝓜 𝓡 code.env #sessions·put-at put-at-def.routine code.calls-sessions·put-at (put-at-thm.met 𝓤 H 𝓜 𝓖 𝓡)))
+    (cited 𝓤 H (Finds 𝓤 H (𝓖 .A) (𝓜 .mem) (𝓡 .run)) 𝓜 𝓡 code.env #session-table·find find-def.routine code.calls-session-table·find (find-thm.met 𝓤 H 𝓜 𝓖 𝓡))
+    (cited 𝓤 H (Gets 𝓤 H (𝓖 .A) (𝓜 .mem) (𝓡 .run)) 𝓜 𝓡 code.env #session-table·at at-def.routine code.calls-session-table·at (at-thm.met 𝓤 H 𝓜 𝓖 𝓡))
+    (cited 𝓤 H (Adds 𝓤 H (𝓖 .A) (𝓜 .mem) (𝓡 .run)) 𝓜 𝓡 code.env #session-record·add-record add-record-def.routine code.calls-session-record·add-record (add-record-thm.met 𝓤 H 𝓜 𝓖 𝓡))
+    (cited 𝓤 H (Puts 𝓤 H (𝓖 .A) (𝓜 .mem) (𝓡 .run)) 𝓜 𝓡 code.env #session-table·put-at put-at-def.routine code.calls-session-table·put-at (put-at-thm.met 𝓤 H 𝓜 𝓖 𝓡)))

@@ -1,22 +1,22 @@
 -- Right because within the table the record is copied out, and past the end `vacant` makes a free one, which is what `getD` says there. A walk of the MIR, by hand.
 -- Assumes nothing.
-use Rattle.sessions.proofs.Kit.{_≡_, refl, sym, _∙_, ℕ, _<_, _^_, _*_, List, [], _∷_, length, getD, ltb→lt, nltb→le, URA, fullShare, named, w64, tyPtr, Val, vint, vptr, SProp, ent, emp, via, id⊢, exE, fst∗, snd∗, Lft, GName, Share, Fml, ftrue, fat, flft, Memory, Routine, Heap, Calls, Loops, WpFn, Tables, Atoms, sem, Fun, fact, givenOf, tables, tablesOf, Given, ‵, raw, some, later, _⊛_, ⋆, atRet, _$_, _∵_, !, qed, by, move, keep, drop, use0, use1, split, join, pick, rewrite, fsplit, fjoin, suffices, frame, await, done, whole, sub, look-in, look, look-raw, init, stop, hop, fld, from, load, lit, of-opd, bin, assigns, assigns-last, first, branches, land-last, no-more, returns, enter, alloc1, alloc0, params1, pass1, pass0, exec, FmC, fmOf, WpFn-mono, owns, Is, shows, uint-makes, uint-vals, uint-tells, usize, RefT, now, sliceVal, ShrSlice, Room, slice-vals, shr-slice-tells, place-is, elem-back, shuts-slice, plain, owned, nothing, heard, facts, calls-at-last, ensured, lasts, Vals, onEntry, Meets, tripleOf, Contract, Triple, entered, cited, says, Stays, stay-none, stay-none-slice, walkOf, goes-none, goes-none-slice, ends-at, walked, walk-meets, yes}
+use Rattle.session_table.proofs.Kit.{_≡_, refl, sym, _∙_, ℕ, _<_, _^_, _*_, List, [], _∷_, length, getD, ltb→lt, nltb→le, URA, fullShare, named, w64, tyPtr, Val, vint, vptr, SProp, ent, emp, via, id⊢, exE, fst∗, snd∗, Lft, GName, Share, Fml, ftrue, fat, flft, Memory, Routine, Heap, Calls, Loops, WpFn, Tables, Atoms, sem, Fun, fact, givenOf, tables, tablesOf, Given, ‵, raw, some, later, _⊛_, ⋆, atRet, _$_, _∵_, !, qed, by, move, keep, drop, use0, use1, split, join, pick, rewrite, fsplit, fjoin, suffices, frame, await, done, whole, sub, look-in, look, look-raw, init, stop, hop, fld, from, load, lit, of-opd, bin, assigns, assigns-last, first, branches, land-last, no-more, returns, enter, alloc1, alloc0, params1, pass1, pass0, exec, FmC, fmOf, WpFn-mono, owns, Is, shows, uint-makes, uint-vals, uint-tells, usize, RefT, now, sliceVal, ShrSlice, Room, slice-vals, shr-slice-tells, place-is, elem-back, shuts-slice, plain, owned, nothing, heard, facts, calls-at-last, ensured, lasts, Vals, onEntry, Meets, tripleOf, Contract, Triple, entered, cited, says, Stays, stay-none, stay-none-slice, walkOf, goes-none, goes-none-slice, ends-at, walked, walk-meets, yes}
 use mir.Syntax.{imm, tyBool}
 use denote.Slice.{sliceTy}
-use Rattle.session.specs.declared.Session.{Session}
-use Rattle.session.specs.Records.{free}
-use Rattle.sessions.proofs.Walk.{R, mach as mach-of, size, place-fits, get-past, word, ref, typed, looks-table, record-out, record-owned}
-use Rattle.sessions.proofs.Leaving.{Locals, leaves, holds}
-use Rattle.sessions.proofs.Operands.{local}
-use Rattle.session.proofs.Session.Laws as T′
-use Rattle.session.proofs.vacant as vacant
-use Rattle.session.proofs.vacant.Symbol as vacant-def
-use Rattle.session.proofs.vacant.Symbol.{name as #session·vacant}
-use Rattle.session.proofs.vacant.Met as vacant-thm
-use Rattle.sessions.proofs.at.Key.{name as #sessions·at}
-use Rattle.sessions.proofs.at as at
-use Rattle.sessions.proofs.at.Statement as stated
-use Rattle.sessions.proofs.at.Code as code
+use Rattle.session_record.specs.declared.Session.{Session}
+use Rattle.session_record.specs.Reading.{free}
+use Rattle.session_table.proofs.Walk.{R, mach as mach-of, size, place-fits, get-past, word, ref, typed, looks-table, record-out, record-owned}
+use Rattle.session_table.proofs.Leaving.{Locals, leaves, holds}
+use Rattle.session_table.proofs.Operands.{local}
+use Rattle.session_record.proofs.Session.Laws as T′
+use Rattle.session_record.proofs.vacant as vacant
+use Rattle.session_record.proofs.vacant.Symbol as vacant-def
+use Rattle.session_record.proofs.vacant.Symbol.{name as #session-record·vacant}
+use Rattle.session_record.proofs.vacant.Met as vacant-thm
+use Rattle.session_table.proofs.at.Key.{name as #session-table·at}
+use Rattle.session_table.proofs.at as at
+use Rattle.session_table.proofs.at.Statement as stated
+use Rattle.session_table.proofs.at.Code as code
 
 abbrev locals : ℕ → ℕ → ℕ → ℕ → ℕ → ℕ → ℕ → ℕ → ℕ → Locals
 locals l₀ l₁ l₂ l₃ l₄ l₅ l₆ l₇ l₈ = (T′.mir, l₀) ∷ (sliceTy (ref (named 0) imm), l₁) ∷ (word, l₂) ∷ (word, l₃) ∷ (tyBool, l₄) ∷ (T′.mir, l₅) ∷ (word, l₆) ∷ (tyPtr, l₇) ∷ (T′.mir, l₈) ∷ []
@@ -67,7 +67,7 @@ module _ {M : Type 1} (𝓤 : URA M) (H : Heap 𝓤) (A : Atoms 𝓤) (W : Given
   asks-none : ent 𝓤 (emp 𝓤) (Makes 𝓤 H A mem run .pre to-vacant)
   asks-none = qed W [] ∵ nothing ! $ nothing ! $ join ! $ frame ! $ done !
 
-  module _ (C : Calls 𝓤 H) (Λ : Loops 𝓤 H) (fm : FmC 𝓤 H (W .laws) C) (known-vacant : Triple 𝓤 (C #session·vacant) (Makes 𝓤 H A mem run)) where
+  module _ (C : Calls 𝓤 H) (Λ : Loops 𝓤 H) (fm : FmC 𝓤 H (W .laws) C) (known-vacant : Triple 𝓤 (C #session-record·vacant) (Makes 𝓤 H A mem run)) where
     walk : ent 𝓤 (onEntry 𝓤 H A at.signature (κ, tt) (q, tt) x vals) (WpFn 𝓤 H C Λ code.function (sl ∷ vint w64 i ∷ []) Post)
     walk =
         qed W ((‵ (flft κ q) ⊛ ‵ ftrue) ∷ ‵ (owns (ShrSlice (named 0) κ R ∷ usize ∷ []) x vals) ∷ []) ∵ enter ! C Λ code.function (sl ∷ vint w64 i ∷ []) _ $
@@ -108,7 +108,7 @@ module _ {M : Type 1} (𝓤 : URA M) (H : Heap 𝓤) (A : Atoms 𝓤) (W : Given
         returns ! (look ! 16 refl) $ move ! (18 ∷ 19 ∷ []) $ leaves ! 2 (holds _ ∷ holds _ ∷ holds _ ∷ holds _ ∷ holds _ ∷ holds _ ∷ []) refl $
         split ! $ move ! (2 ∷ []) $ fsplit ! $ keep ! (2 ∷ 0 ∷ []) $ by ! (exits s u is (e ∙ get-past ys i (nltb→le i (length ys) over)))))))))))))))))
 
-at-meets : {M : Type 1} (𝓤 : URA M) (H : Heap 𝓤) (A : Atoms 𝓤) (W : Given 𝓤 H A) (mem : Memory → SProp 𝓤) (run : Routine → Fun 𝓤) (𝓣 : Tables 𝓤 H) → Triple 𝓤 (𝓣 .C #session·vacant) (Makes 𝓤 H A mem run) → Meets 𝓤 H A at.signature (WpFn 𝓤 H (𝓣 .C) (𝓣 .Λ) code.function) (at.spec 𝓤 H A mem run)
+at-meets : {M : Type 1} (𝓤 : URA M) (H : Heap 𝓤) (A : Atoms 𝓤) (W : Given 𝓤 H A) (mem : Memory → SProp 𝓤) (run : Routine → Fun 𝓤) (𝓣 : Tables 𝓤 H) → Triple 𝓤 (𝓣 .C #session-record·vacant) (Makes 𝓤 H A mem run) → Meets 𝓤 H A at.signature (WpFn 𝓤 H (𝓣 .C) (𝓣 .Λ) code.function) (at.spec 𝓤 H A mem run)
 at-meets 𝓤 H A W mem run 𝓣 known-vacant =
     walk-meets 𝓤 H A at.ended stayed W (goes-none-slice 𝓤 H A W 1 (0 ∷ []) tt (plain (λ _. R)) yes, (goes-none 𝓤 H A W 1 (λ _. usize) yes (λ κs x f. refl), tt)) (at.clauses 𝓤 H A mem run)
     (WpFn 𝓤 H (𝓣 .C) (𝓣 .Λ) code.function) (WpFn-mono 𝓤 H (W .laws) 𝓣 code.function)
@@ -120,6 +120,6 @@ pub at-spec : {M : Type 1} → stated.statement M
 unfolding code.routine tablesOf
 at-spec 𝓤 H 𝓜 𝓖 𝓡 =
     entered 𝓤 H (tripleOf 𝓤 H (𝓖 .A) at.signature (at.spec 𝓤 H (𝓖 .A) (𝓜 .mem) (𝓡 .run)))
-    (tables 𝓤 H 𝓜 𝓡 code.env .C) (tables 𝓤 H 𝓜 𝓡 code.env .Λ) #sessions·at code.function (code.unfolded 𝓤 H 𝓜 𝓡)
+    (tables 𝓤 H 𝓜 𝓡 code.env .C) (tables 𝓤 H 𝓜 𝓡 code.env .Λ) #session-table·at code.function (code.unfolded 𝓤 H 𝓜 𝓡)
     (at-meets 𝓤 H (𝓖 .A) (givenOf 𝓤 H 𝓜 𝓖) (𝓜 .mem) (𝓡 .run) (tablesOf 𝓤 H 𝓜 (tables 𝓤 H 𝓜 𝓡 code.env))
-    (cited 𝓤 H (Makes 𝓤 H (𝓖 .A) (𝓜 .mem) (𝓡 .run)) 𝓜 𝓡 code.env #session·vacant vacant-def.routine code.calls-session·vacant (vacant-thm.met 𝓤 H 𝓜 𝓖 𝓡)))
+    (cited 𝓤 H (Makes 𝓤 H (𝓖 .A) (𝓜 .mem) (𝓡 .run)) 𝓜 𝓡 code.env #session-record·vacant vacant-def.routine code.calls-session-record·vacant (vacant-thm.met 𝓤 H 𝓜 𝓖 𝓡)))

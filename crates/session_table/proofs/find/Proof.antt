@@ -45,22 +45,22 @@ use denote.Triple.Statement.{Contract, Triple}
 use denote.Triple.Table.{entered, cited}
 use denote.Triple.Walked.{says, Stays, stay-none, stay-none-slice, walkOf, goes-none, goes-none-slice, ends-at, walked, walk-meets}
 use denote.Exit.{yes}
-use Rattle.session.specs.declared.Session.{Session}
-use Rattle.session.specs.Records.{free, isWanted}
-use Rattle.sessions.specs.Place.{first as first-of}
-use Rattle.sessions.proofs.PlaceLaws.{first-here, first-later, first-none}
-use Rattle.sessions.proofs.Walk.{R, mach, size, place-fits, is-true, is-false, word, ref, typed, looks-table, record-out, record-owned}
-use Rattle.sessions.proofs.Leaving.{leaves, holds, empty}
-use Rattle.sessions.proofs.Operands.{local}
-use Rattle.session.proofs.Session.Laws as T′
-use Rattle.session.proofs.wanted as wanted
-use Rattle.session.proofs.wanted.Symbol as wanted-def
-use Rattle.session.proofs.wanted.Symbol.{name as #session·wanted}
-use Rattle.session.proofs.wanted.Met as wanted-thm
-use Rattle.sessions.proofs.find.Key.{name as #sessions·find}
-use Rattle.sessions.proofs.find as find
-use Rattle.sessions.proofs.find.Statement as stated
-use Rattle.sessions.proofs.find.Code as code
+use Rattle.session_record.specs.declared.Session.{Session}
+use Rattle.session_record.specs.Reading.{free, isWanted}
+use Rattle.session_table.specs.Place.{first as first-of}
+use Rattle.session_table.proofs.PlaceLaws.{first-here, first-later, first-none}
+use Rattle.session_table.proofs.Walk.{R, mach, size, place-fits, is-true, is-false, word, ref, typed, looks-table, record-out, record-owned}
+use Rattle.session_table.proofs.Leaving.{leaves, holds, empty}
+use Rattle.session_table.proofs.Operands.{local}
+use Rattle.session_record.proofs.Session.Laws as T′
+use Rattle.session_record.proofs.wanted as wanted
+use Rattle.session_record.proofs.wanted.Symbol as wanted-def
+use Rattle.session_record.proofs.wanted.Symbol.{name as #session-record·wanted}
+use Rattle.session_record.proofs.wanted.Met as wanted-thm
+use Rattle.session_table.proofs.find.Key.{name as #session-table·find}
+use Rattle.session_table.proofs.find as find
+use Rattle.session_table.proofs.find.Statement as stated
+use Rattle.session_table.proofs.find.Code as code
 
 abbrev stayed : Stays (find.ended .signature .params) (find.ended .kept)
 stayed = (stay-none-slice (0 ∷ []) tt (plain (λ _. R)) yes, (stay-none (λ _. Boolean) yes, (stay-none (λ _. u64) yes, tt)))
@@ -121,7 +121,7 @@ module _ {M : Type 1} (𝓤 : URA M) (H : Heap 𝓤) (A : Atoms 𝓤) (W : Given
   asked : (i : ℕ) → Is R (elem i) (mach (elem i) ∷ []) → ent 𝓤 (emp 𝓤) (Asks 𝓤 H A mem run .pre (to i))
   asked i g = qed W [] ∵ nothing ! $ owned ! u64 (Is u64) (uint-makes 𝓤 H A W w64) id _ (refl, id-fits) $ fjoin ! $ owned ! Boolean (Is Boolean) (bool-makes 𝓤 H A W) used _ refl $ fjoin ! $ record-owned ! (elem i) _ g $ fjoin ! $ nothing ! $ join ! $ frame ! $ done !
 
-  module _ (𝓣 : Tables 𝓤 H) (known : Triple 𝓤 (𝓣 .C #session·wanted) (Asks 𝓤 H A mem run)) (l₀ l₁ l₂ l₃ l₄ l₅ l₆ l₇ l₈ l₉ : ℕ) where
+  module _ (𝓣 : Tables 𝓤 H) (known : Triple 𝓤 (𝓣 .C #session-record·wanted) (Asks 𝓤 H A mem run)) (l₀ l₁ l₂ l₃ l₄ l₅ l₆ l₇ l₈ l₉ : ℕ) where
     abbrev C : Calls 𝓤 H
     C = 𝓣 .C
 
@@ -196,7 +196,7 @@ module _ {M : Type 1} (𝓤 : URA M) (H : Heap 𝓤) (A : Atoms 𝓤) (W : Given
             forget ! 2 refl $ forget ! 4 refl $ forget ! 6 refl $ forget ! 8 refl $ forget ! 10 refl $
             again ! Nearer At i (i .0 + 1, (omega (arith, l), first-later (isWanted used id) ys (i .0) (i .1 .1) l (sym e ∙ is-false r failed))) (omega (arith, l)))))))))
 
-  walk : (𝓣 : Tables 𝓤 H) → Triple 𝓤 (𝓣 .C #session·wanted) (Asks 𝓤 H A mem run) → ent 𝓤 (onEntry 𝓤 H A find.signature (κ, tt) (q, tt) x at) (WpFn 𝓤 H (𝓣 .C) (𝓣 .Λ) code.function (sliceVal (b, o) n ∷ vbool used ∷ vint w64 id ∷ []) Post)
+  walk : (𝓣 : Tables 𝓤 H) → Triple 𝓤 (𝓣 .C #session-record·wanted) (Asks 𝓤 H A mem run) → ent 𝓤 (onEntry 𝓤 H A find.signature (κ, tt) (q, tt) x at) (WpFn 𝓤 H (𝓣 .C) (𝓣 .Λ) code.function (sliceVal (b, o) n ∷ vbool used ∷ vint w64 id ∷ []) Post)
   walk 𝓣 known =
       qed W ((‵ (flft κ q) ⊛ ‵ ftrue) ∷ ‵ (owns (ShrSlice (named 0) κ R ∷ Boolean ∷ u64 ∷ []) x at) ∷ []) ∵ enter ! (𝓣 .C) (𝓣 .Λ) code.function (sliceVal (b, o) n ∷ vbool used ∷ vint w64 id ∷ []) _ $
       alloc1 ! (λ l₀. alloc1 ! (λ l₁. alloc1 ! (λ l₂. alloc1 ! (λ l₃. alloc1 ! (λ l₄. alloc1 ! (λ l₅. alloc1 ! (λ l₆. alloc1 ! (λ l₇. alloc1 ! (λ l₈. alloc1 ! (λ l₉. alloc0 ! $ params1 ! $
@@ -206,7 +206,7 @@ module _ {M : Type 1} (𝓤 : URA M) (H : Heap 𝓤) (A : Atoms 𝓤) (W : Given
       move ! (21 ∷ []) $ fsplit ! $ move ! (1 ∷ []) $ drop ! $ move ! (21 ∷ []) $ split ! $ move ! (1 ∷ []) $ drop ! $ move ! (1 ∷ 0 ∷ []) $
       first ! $ blocks ! $ loops ! 𝓣 Nearer Nearer-wf (At 𝓣 known l₀ l₁ l₂ l₃ l₄ l₅ l₆ l₇ l₈ l₉) (turns 𝓣 known l₀ l₁ l₂ l₃ l₄ l₅ l₆ l₇ l₈ l₉) (0, (zero-le, omega arith))))))))))))
 
-find-meets : {M : Type 1} (𝓤 : URA M) (H : Heap 𝓤) (A : Atoms 𝓤) (W : Given 𝓤 H A) (mem : Memory → SProp 𝓤) (run : Routine → Fun 𝓤) (𝓣 : Tables 𝓤 H) → Triple 𝓤 (𝓣 .C #session·wanted) (Asks 𝓤 H A mem run)
+find-meets : {M : Type 1} (𝓤 : URA M) (H : Heap 𝓤) (A : Atoms 𝓤) (W : Given 𝓤 H A) (mem : Memory → SProp 𝓤) (run : Routine → Fun 𝓤) (𝓣 : Tables 𝓤 H) → Triple 𝓤 (𝓣 .C #session-record·wanted) (Asks 𝓤 H A mem run)
     → Meets 𝓤 H A find.signature (WpFn 𝓤 H (𝓣 .C) (𝓣 .Λ) code.function) (find.spec 𝓤 H A mem run)
 find-meets 𝓤 H A W mem run 𝓣 known =
     walk-meets 𝓤 H A find.ended stayed W (goes-none-slice 𝓤 H A W 1 (0 ∷ []) tt (plain (λ _. R)) yes, (goes-none 𝓤 H A W 1 (λ _. Boolean) yes (λ κs x f. refl), (goes-none 𝓤 H A W 1 (λ _. u64) yes (λ κs x f. refl), tt))) (find.clauses 𝓤 H A mem run)
@@ -220,6 +220,6 @@ pub find-spec : {M : Type 1} → stated.statement M
 unfolding code.routine tablesOf
 find-spec 𝓤 H 𝓜 𝓖 𝓡 =
     entered 𝓤 H (tripleOf 𝓤 H (𝓖 .A) find.signature (find.spec 𝓤 H (𝓖 .A) (𝓜 .mem) (𝓡 .run)))
-    (tables 𝓤 H 𝓜 𝓡 code.env .C) (tables 𝓤 H 𝓜 𝓡 code.env .Λ) #sessions·find code.function (code.unfolded 𝓤 H 𝓜 𝓡)
+    (tables 𝓤 H 𝓜 𝓡 code.env .C) (tables 𝓤 H 𝓜 𝓡 code.env .Λ) #session-table·find code.function (code.unfolded 𝓤 H 𝓜 𝓡)
     (find-meets 𝓤 H (𝓖 .A) (givenOf 𝓤 H 𝓜 𝓖) (𝓜 .mem) (𝓡 .run) (tablesOf 𝓤 H 𝓜 (tables 𝓤 H 𝓜 𝓡 code.env))
-    (cited 𝓤 H (Asks 𝓤 H (𝓖 .A) (𝓜 .mem) (𝓡 .run)) 𝓜 𝓡 code.env #session·wanted wanted-def.routine code.calls-session·wanted (wanted-thm.met 𝓤 H 𝓜 𝓖 𝓡)))
+    (cited 𝓤 H (Asks 𝓤 H (𝓖 .A) (𝓜 .mem) (𝓡 .run)) 𝓜 𝓡 code.env #session-record·wanted wanted-def.routine code.calls-session-record·wanted (wanted-thm.met 𝓤 H 𝓜 𝓖 𝓡)))

@@ -1,42 +1,44 @@
 -- Right because the record that lookup takes for the id that the message names opens it, and the table is a `&`. A walk of the MIR, by hand: the message is lent as `&` for `session_id`, comes back, and goes to `open_record` for good.
 -- Assumes nothing.
-use Rattle.sessions.proofs.Kit.{_≡_, refl, ℕ, List, [], _∷_, length, URA, fullShare, named, w64, Val, vint, SProp, ent, sep, emp, via, id⊢, fst∗, Lft, GName, Share, ftrue, flft, Memory, Routine, Heap, Calls, Loops, WpFn, Tables, Atoms, sem, Fun, givenOf, tables, tablesOf, Given, ‵, raw, _⊛_, ⋆, _$_, _∵_, !, qed, by, move, keep, drop, use1, use2, split, join, fsplit, fjoin, feqL, suffices, frame, done, whole, sub, look-in, look, init, stop, from, land, no-more, and-then, returns, enter, alloc1, alloc0, params1, pass1, pass0, FmC, fmOf, WpFn-mono, owns, Is, uint-tells, u8, RefT, now, sliceVal, MutSlice, ShrSlice, Room, finally, slice-vals, mut-slice-tells, shr-slice-tells, shr-slice-copy, plain, nothing, Vals, onEntry, Meets, tripleOf, Contract, Triple, entered, cited, says, Stays, stay-none, stay-none-slice, gave-slice, walkOf, goes-none, goes-none-slice, goes-gave-slice, ends-at, walked, walk-meets, yes}
+use Rattle.session_table.proofs.Kit.{_≡_, refl, ℕ, List, [], _∷_, length, URA, fullShare, named, w64, Val, vint, SProp, ent, sep, emp, via, id⊢, fst∗, Lft, GName, Share, ftrue, flft, Memory, Routine, Heap, Calls, Loops, WpFn, Tables, Atoms, sem, Fun, givenOf, tables, tablesOf, Given, ‵, raw, _⊛_, ⋆, _$_, _∵_, !, qed, by, move, keep, drop, use1, use2, split, join, fsplit, fjoin, feqL, suffices, frame, done, whole, sub, look-in, look, init, stop, from, land, no-more, and-then, returns, enter, alloc1, alloc0, params1, pass1, pass0, FmC, fmOf, WpFn-mono, owns, Is, uint-tells, u8, RefT, now, sliceVal, MutSlice, ShrSlice, Room, finally, slice-vals, mut-slice-tells, shr-slice-tells, shr-slice-copy, plain, nothing, Vals, onEntry, Meets, tripleOf, Contract, Triple, entered, cited, says, Stays, stay-none, stay-none-slice, gave-slice, walkOf, goes-none, goes-none-slice, goes-gave-slice, ends-at, walked, walk-meets, yes}
 use denote.Struct.Laws as LL
 use denote.Enum.Laws as EL
-use Rattle.session.specs.declared.Session.{Session}
-use Rattle.session.specs.declared.Connection.{Connection}
-use Rattle.compound.specs.declared.Outcome.{Outcome}
-use Rattle.session.specs.Records.{sessionOf, connectionOf}
-use Rattle.compound.specs.Outcomes.{answerOf}
-use Rattle.session.specs.OneRecord.{OpensWith, namedId}
-use Rattle.sessions.specs.Reading.{tableOf}
-use Rattle.sessions.specs.Calls.{OpensInTable}
-use Rattle.sessions.proofs.TableCalls.{opened-says}
-use Rattle.session.proofs.Connection as Cn
-use Rattle.session.proofs.Connection.Laws as Cn′
-use Rattle.compound.proofs.Outcome as An
-use Rattle.compound.proofs.Outcome.Laws as An′
-use Rattle.sessions.proofs.Walk.{R, mach, typed, record-owned}
-use Rattle.sessions.proofs.Values.{ConnectionT, OutcomeT, mach-c, mach-a, connection-typed, outcome-typed, connection-owned, outcome-owned}
-use Rattle.sessions.proofs.Leaving.{leaves, holds}
-use Rattle.sessions.proofs.Operands.{local, reborrows}
-use Rattle.sessions.proofs.Said.{calls-said}
-use Rattle.sessions.proofs.Calls.{ref-at, lend, back, Looks, Shr, calls-lookup}
-use Rattle.sessions.proofs.lookup.Symbol as lookup-def
-use Rattle.sessions.proofs.lookup.Symbol.{name as #sessions·lookup}
-use Rattle.sessions.proofs.lookup.Met as lookup-thm
-use Rattle.session.proofs.session_id as session-id
-use Rattle.session.proofs.session_id.Symbol as session-id-def
-use Rattle.session.proofs.session_id.Symbol.{name as #session·session-id}
-use Rattle.session.proofs.session_id.Met as session-id-thm
-use Rattle.session.proofs.open_record as open-record
-use Rattle.session.proofs.open_record.Symbol as open-record-def
-use Rattle.session.proofs.open_record.Symbol.{name as #session·open-record}
-use Rattle.session.proofs.open_record.Met as open-record-thm
-use Rattle.sessions.proofs.open.Key.{name as #sessions·open}
-use Rattle.sessions.proofs.open as opening
-use Rattle.sessions.proofs.open.Statement as stated
-use Rattle.sessions.proofs.open.Code as code
+use Rattle.session_record.specs.declared.Session.{Session}
+use Rattle.connection.specs.declared.Connection.{Connection}
+use Rattle.answer.specs.declared.Answer.{Answer}
+use Rattle.connection.specs.Reading.{connectionOf}
+use Rattle.session_record.specs.Reading.{sessionOf}
+use Rattle.answer.specs.Reading.{answerOf}
+use Rattle.session_record.specs.Contracts.{OpensWith, namedId}
+use Rattle.session_table.specs.Reading.{tableOf}
+use Rattle.protocol.specs.Calls.{opening, messageAndTable}
+use Rattle.protocol.specs.Contract.{Makes}
+use Rattle.session_table.proofs.TableCalls.{opened-says}
+use Rattle.connection.proofs.Connection as Cn
+use Rattle.connection.proofs.Connection.Laws as Cn′
+use Rattle.answer.proofs.Answer as An
+use Rattle.answer.proofs.Answer.Laws as An′
+use Rattle.session_table.proofs.Walk.{R, mach, typed, record-owned}
+use Rattle.session_table.proofs.Values.{ConnectionT, AnswerT, mach-c, mach-a, connection-typed, answer-typed, connection-owned, answer-owned}
+use Rattle.session_table.proofs.Leaving.{leaves, holds}
+use Rattle.session_table.proofs.Operands.{local, reborrows}
+use Rattle.session_table.proofs.Said.{calls-said}
+use Rattle.session_table.proofs.Calls.{ref-at, lend, back, Looks, Shr, calls-lookup}
+use Rattle.session_table.proofs.lookup.Symbol as lookup-def
+use Rattle.session_table.proofs.lookup.Symbol.{name as #session-table·lookup}
+use Rattle.session_table.proofs.lookup.Met as lookup-thm
+use Rattle.session_record.proofs.session_id as session-id
+use Rattle.session_record.proofs.session_id.Symbol as session-id-def
+use Rattle.session_record.proofs.session_id.Symbol.{name as #session-record·session-id}
+use Rattle.session_record.proofs.session_id.Met as session-id-thm
+use Rattle.session_record.proofs.open_record as open-record
+use Rattle.session_record.proofs.open_record.Symbol as open-record-def
+use Rattle.session_record.proofs.open_record.Symbol.{name as #session-record·open-record}
+use Rattle.session_record.proofs.open_record.Met as open-record-thm
+use Rattle.session_table.proofs.open.Key.{name as #session-table·open}
+use Rattle.session_table.proofs.open as opening
+use Rattle.session_table.proofs.open.Statement as stated
+use Rattle.session_table.proofs.open.Code as code
 
 abbrev stayed : Stays (opening.ended .signature .params) (opening.ended .kept)
 stayed = (stay-none-slice (0 ∷ []) tt (plain (λ _. R)) yes, (stay-none (λ _. ConnectionT) yes, (gave-slice (1 ∷ []) tt (plain (λ _. u8)), tt)))
@@ -80,16 +82,16 @@ module _ {M : Type 1} (𝓤 : URA M) (H : Heap 𝓤) (A : Atoms 𝓤) (W : Given
   abbrev Post : Val → SProp 𝓤
   Post = walkOf 𝓤 H A opening.ended stayed (opening.clauses 𝓤 H A mem run) .post (((κ, (μ, tt)), (q, (p, tt)), tt, a, vals), tt)
 
-  exits : (r : Outcome) (fs : List ℕ) → Is OutcomeT r (mach-a r ∷ []) → length fs ≡ length ms → OpensInTable (connectionOf c) ms fs (tableOf ys) (answerOf r)
+  exits : (r : Answer) (fs : List ℕ) → Is AnswerT r (mach-a r ∷ []) → length fs ≡ length ms → Makes (opening (connectionOf c)) (messageAndTable ms (tableOf ys)) (answerOf r) (messageAndTable fs (tableOf ys))
       → ent 𝓤 (⋆ 𝓤 H A (‵ (flft κ q) ∷ ‵ (flft μ p) ∷ ‵ (Shr κ b o γ ys) ∷ ‵ (finally u8 γ′ fs) ∷ [])) (Post (mach-a r))
   exits r fs is lf said =
       qed W (‵ (flft κ q) ∷ ‵ (flft μ p) ∷ ‵ (Shr κ b o γ ys) ∷ ‵ (finally u8 γ′ fs) ∷ []) ∵
       suffices ! _ (ends-at 𝓤 H A opening.ended stayed (opening.clauses 𝓤 H A mem run) W (((κ, (μ, tt)), (q, (p, tt)), tt, a, vals), tt) (mach-a r) r (tt, (tt, (fs, tt))) (tt, (tt, (lf, tt)))) $ says ! said $
       nothing ! $ move ! (2 ∷ 0 ∷ []) $ join ! $ move ! (1 ∷ 0 ∷ []) $ join ! $ frame ! $
       nothing ! $ move ! (2 ∷ 0 ∷ []) $ fjoin ! $ connection-owned ! c _ gc $ fjoin ! $ move ! (1 ∷ 0 ∷ []) $ fjoin ! $ frame ! $
-      outcome-owned ! r _ is $ done !
+      answer-owned ! r _ is $ done !
 
-  module _ (C : Calls 𝓤 H) (Λ : Loops 𝓤 H) (fm : FmC 𝓤 H (W .laws) C) (ki : Triple 𝓤 (C #session·session-id) (Ids 𝓤 H A mem run)) (kl : Triple 𝓤 (C #sessions·lookup) (Looks 𝓤 H A mem run)) (ko : Triple 𝓤 (C #session·open-record) (Opens 𝓤 H A mem run)) where
+  module _ (C : Calls 𝓤 H) (Λ : Loops 𝓤 H) (fm : FmC 𝓤 H (W .laws) C) (ki : Triple 𝓤 (C #session-record·session-id) (Ids 𝓤 H A mem run)) (kl : Triple 𝓤 (C #session-table·lookup) (Looks 𝓤 H A mem run)) (ko : Triple 𝓤 (C #session-record·open-record) (Opens 𝓤 H A mem run)) where
     walk : ent 𝓤 (onEntry 𝓤 H A opening.signature (κ, (μ, tt)) (q, (p, tt)) a vals) (WpFn 𝓤 H C Λ code.function (sl ∷ mach-c c ∷ ml ∷ []) Post)
     walk =
         qed W ((‵ (flft κ q) ⊛ (‵ (flft μ p) ⊛ ‵ ftrue)) ∷ ‵ (owns (ShrSlice (named 0) κ R ∷ ConnectionT ∷ MutSlice (named 1) μ u8 ∷ []) a vals) ∷ []) ∵ enter ! C Λ code.function (sl ∷ mach-c c ∷ ml ∷ []) _ $
@@ -114,11 +116,11 @@ module _ {M : Type 1} (𝓤 : URA M) (H : Heap 𝓤) (A : Atoms 𝓤) (W : Given
         move ! (3 ∷ 2 ∷ []) $ use2 W (raw (Opens 𝓤 H A mem run .pre (to-open 𝓤 H A mem run μ p b′ o′ γ′ ms s c))) (asks-open 𝓤 H A mem run μ p b′ o′ γ′ ms W s c gs gc) $
         calls-said open-record.ended (open-record.clauses 𝓤 H A mem run) ! fm ko (to-open 𝓤 H A mem run μ p b′ o′ γ′ ms s c) (λ r ws. OpensWith (sessionOf s) (connectionOf c) ms (ws .1 .1 .0) (answerOf r)) (λ r ws. id⊢ 𝓤 _) mach-a (EL.tells An.the-type An′.the-laws) (and-then ! (local ! 11 refl) (and-then ! (local ! 17 refl) (and-then ! (local ! 3 refl) (no-more !)))) (λ r ws said gr.
         use1 W (‵ (flft μ p) ⊛ ‵ ftrue) (id⊢ 𝓤 _) $ split ! $ move ! (1 ∷ []) $ drop ! $ move ! (1 ∷ []) $ fsplit ! $ drop ! $ fsplit ! $ drop ! $ fsplit ! $ fsplit ! $ move ! (1 ∷ []) $ feqL ! (λ lf. move ! (1 ∷ []) $ drop ! $ move ! (1 ∷ 0 ∷ []) $
-        land ! (from ! (stop !)) (init ! 22 refl (outcome-typed W r gr)) $
+        land ! (from ! (stop !)) (init ! 22 refl (answer-typed W r gr)) $
         returns ! (look ! 22 refl) $ leaves ! 4 (holds _ ∷ holds _ ∷ holds _ ∷ holds _ ∷ holds _ ∷ holds _ ∷ holds _ ∷ holds _ ∷ holds _ ∷ holds _ ∷ []) refl $
         keep ! (2 ∷ 0 ∷ 3 ∷ 1 ∷ []) $ by ! (exits r (ws .1 .1 .0) gr lf (opened-says (connectionOf c) ms (tableOf ys) id (ws .1 .1 .0) (sessionOf s) (answerOf r) e₀ e said)))))))))))))))))
 
-open-meets : {M : Type 1} (𝓤 : URA M) (H : Heap 𝓤) (A : Atoms 𝓤) (W : Given 𝓤 H A) (mem : Memory → SProp 𝓤) (run : Routine → Fun 𝓤) (𝓣 : Tables 𝓤 H) → Triple 𝓤 (𝓣 .C #session·session-id) (Ids 𝓤 H A mem run) → Triple 𝓤 (𝓣 .C #sessions·lookup) (Looks 𝓤 H A mem run) → Triple 𝓤 (𝓣 .C #session·open-record) (Opens 𝓤 H A mem run) → Meets 𝓤 H A opening.signature (WpFn 𝓤 H (𝓣 .C) (𝓣 .Λ) code.function) (opening.spec 𝓤 H A mem run)
+open-meets : {M : Type 1} (𝓤 : URA M) (H : Heap 𝓤) (A : Atoms 𝓤) (W : Given 𝓤 H A) (mem : Memory → SProp 𝓤) (run : Routine → Fun 𝓤) (𝓣 : Tables 𝓤 H) → Triple 𝓤 (𝓣 .C #session-record·session-id) (Ids 𝓤 H A mem run) → Triple 𝓤 (𝓣 .C #session-table·lookup) (Looks 𝓤 H A mem run) → Triple 𝓤 (𝓣 .C #session-record·open-record) (Opens 𝓤 H A mem run) → Meets 𝓤 H A opening.signature (WpFn 𝓤 H (𝓣 .C) (𝓣 .Λ) code.function) (opening.spec 𝓤 H A mem run)
 open-meets 𝓤 H A W mem run 𝓣 ki kl ko =
     walk-meets 𝓤 H A opening.ended stayed W (goes-none-slice 𝓤 H A W 2 (0 ∷ []) tt (plain (λ _. R)) yes, (goes-none 𝓤 H A W 2 (λ _. ConnectionT) yes (λ κs x f. refl), (goes-gave-slice 𝓤 H A W 2 1 tt (plain (λ _. u8)), tt))) (opening.clauses 𝓤 H A mem run)
     (WpFn 𝓤 H (𝓣 .C) (𝓣 .Λ) code.function) (WpFn-mono 𝓤 H (W .laws) 𝓣 code.function)
@@ -130,8 +132,8 @@ pub open-spec : {M : Type 1} → stated.statement M
 unfolding code.routine tablesOf
 open-spec 𝓤 H 𝓜 𝓖 𝓡 =
     entered 𝓤 H (tripleOf 𝓤 H (𝓖 .A) opening.signature (opening.spec 𝓤 H (𝓖 .A) (𝓜 .mem) (𝓡 .run)))
-    (tables 𝓤 H 𝓜 𝓡 code.env .C) (tables 𝓤 H 𝓜 𝓡 code.env .Λ) #sessions·open code.function (code.unfolded 𝓤 H 𝓜 𝓡)
+    (tables 𝓤 H 𝓜 𝓡 code.env .C) (tables 𝓤 H 𝓜 𝓡 code.env .Λ) #session-table·open code.function (code.unfolded 𝓤 H 𝓜 𝓡)
     (open-meets 𝓤 H (𝓖 .A) (givenOf 𝓤 H 𝓜 𝓖) (𝓜 .mem) (𝓡 .run) (tablesOf 𝓤 H 𝓜 (tables 𝓤 H 𝓜 𝓡 code.env))
-    (cited 𝓤 H (Ids 𝓤 H (𝓖 .A) (𝓜 .mem) (𝓡 .run)) 𝓜 𝓡 code.env #session·session-id session-id-def.routine code.calls-session·session-id (session-id-thm.met 𝓤 H 𝓜 𝓖 𝓡))
-    (cited 𝓤 H (Looks 𝓤 H (𝓖 .A) (𝓜 .mem) (𝓡 .run)) 𝓜 𝓡 code.env #sessions·lookup lookup-def.routine code.calls-sessions·lookup (lookup-thm.met 𝓤 H 𝓜 𝓖 𝓡))
-    (cited 𝓤 H (Opens 𝓤 H (𝓖 .A) (𝓜 .mem) (𝓡 .run)) 𝓜 𝓡 code.env #session·open-record open-record-def.routine code.calls-session·open-record (open-record-thm.met 𝓤 H 𝓜 𝓖 𝓡)))
+    (cited 𝓤 H (Ids 𝓤 H (𝓖 .A) (𝓜 .mem) (𝓡 .run)) 𝓜 𝓡 code.env #session-record·session-id session-id-def.routine code.calls-session-record·session-id (session-id-thm.met 𝓤 H 𝓜 𝓖 𝓡))
+    (cited 𝓤 H (Looks 𝓤 H (𝓖 .A) (𝓜 .mem) (𝓡 .run)) 𝓜 𝓡 code.env #session-table·lookup lookup-def.routine code.calls-session-table·lookup (lookup-thm.met 𝓤 H 𝓜 𝓖 𝓡))
+    (cited 𝓤 H (Opens 𝓤 H (𝓖 .A) (𝓜 .mem) (𝓡 .run)) 𝓜 𝓡 code.env #session-record·open-record open-record-def.routine code.calls-session-record·open-record (open-record-thm.met 𝓤 H 𝓜 𝓖 𝓡)))

@@ -1,19 +1,19 @@
 -- Right because within the table the record is stored at its place, and past the end `set` changes nothing either. A walk of the MIR, by hand.
 -- Assumes nothing.
-use Rattle.sessions.proofs.Kit.{_≡_, refl, sym, ap, subst, ℕ, _<_, _^_, _*_, List, [], _∷_, length, set, length-set, ltb→lt, nltb→le, URA, fullShare, named, w64, tyPtr, Val, vunit, vint, vptr, SProp, ent, emp, via, fst∗, Lft, GName, Share, ftrue, fat, flft, fobs, fbor, Memory, Routine, Heap, Calls, Loops, WpFn, Tables, Atoms, Fun, givenOf, tables, tablesOf, Given, ‵, _⊛_, ⋆, atRet, _$_, _∵_, !, qed, by, move, keep, drop, split, join, rewrite, fsplit, fjoin, feqI, suffices, frame, done, whole, sub, look-in, look, init, store-raw, stop, hop, fld, from, load, lit, unit-lit, of-opd, bin, assigns, assigns-last, first, skips, branches, returns, enter, alloc1, alloc0, params1, pass1, pass0, exec, WpFn-mono, owns, pureI, Is, uint-makes, uint-vals, uint-tells, usize, RefT, now, sliceVal, MutSlice, Room, heres, codedHoleys, at-slice, slice-vals, mut-slice-tells, Held, place-is, elem-put, opens-slice, closes-slice, plain, owned, nothing, Vals, onEntry, Meets, tripleOf, entered, says, Stays, stay-none, stay-slice, walkOf, goes-none, goes-slice, ends-at, walked, walk-meets, yes}
+use Rattle.session_table.proofs.Kit.{_≡_, refl, sym, ap, subst, ℕ, _<_, _^_, _*_, List, [], _∷_, length, set, length-set, ltb→lt, nltb→le, URA, fullShare, named, w64, tyPtr, Val, vunit, vint, vptr, SProp, ent, emp, via, fst∗, Lft, GName, Share, ftrue, fat, flft, fobs, fbor, Memory, Routine, Heap, Calls, Loops, WpFn, Tables, Atoms, Fun, givenOf, tables, tablesOf, Given, ‵, _⊛_, ⋆, atRet, _$_, _∵_, !, qed, by, move, keep, drop, split, join, rewrite, fsplit, fjoin, feqI, suffices, frame, done, whole, sub, look-in, look, init, store-raw, stop, hop, fld, from, load, lit, unit-lit, of-opd, bin, assigns, assigns-last, first, skips, branches, returns, enter, alloc1, alloc0, params1, pass1, pass0, exec, WpFn-mono, owns, pureI, Is, uint-makes, uint-vals, uint-tells, usize, RefT, now, sliceVal, MutSlice, Room, heres, codedHoleys, at-slice, slice-vals, mut-slice-tells, Held, place-is, elem-put, opens-slice, closes-slice, plain, owned, nothing, Vals, onEntry, Meets, tripleOf, entered, says, Stays, stay-none, stay-slice, walkOf, goes-none, goes-slice, ends-at, walked, walk-meets, yes}
 use denote.Struct.Laws as LL
 use mir.Syntax.{mut, tyUnit, tyBool}
 use denote.Slice.{sliceTy}
-use Rattle.session.specs.declared.Session.{Session}
-use Rattle.session.proofs.Session as T
-use Rattle.session.proofs.Session.Laws as T′
-use Rattle.sessions.proofs.Walk.{R, mach as mach-of, size, place-fits, set-past, word, ref, typed, record-out, record-owned}
-use Rattle.sessions.proofs.Leaving.{Locals, leaves, holds}
-use Rattle.sessions.proofs.Operands.{local}
-use Rattle.sessions.proofs.put_at.Key.{name as #sessions·put-at}
-use Rattle.sessions.proofs.put_at as put-at
-use Rattle.sessions.proofs.put_at.Statement as stated
-use Rattle.sessions.proofs.put_at.Code as code
+use Rattle.session_record.specs.declared.Session.{Session}
+use Rattle.session_record.proofs.Session as T
+use Rattle.session_record.proofs.Session.Laws as T′
+use Rattle.session_table.proofs.Walk.{R, mach as mach-of, size, place-fits, set-past, word, ref, typed, record-out, record-owned}
+use Rattle.session_table.proofs.Leaving.{Locals, leaves, holds}
+use Rattle.session_table.proofs.Operands.{local}
+use Rattle.session_table.proofs.put_at.Key.{name as #session-table·put-at}
+use Rattle.session_table.proofs.put_at as put-at
+use Rattle.session_table.proofs.put_at.Statement as stated
+use Rattle.session_table.proofs.put_at.Code as code
 
 abbrev locals : ℕ → ℕ → ℕ → ℕ → ℕ → ℕ → ℕ → ℕ → Locals
 locals l₀ l₁ l₂ l₃ l₄ l₅ l₆ l₇ = (tyUnit, l₀) ∷ (sliceTy (ref (named 0) mut), l₁) ∷ (word, l₂) ∷ (T′.mir, l₃) ∷ (word, l₄) ∷ (tyBool, l₅) ∷ (word, l₆) ∷ (tyPtr, l₇) ∷ []
@@ -97,6 +97,6 @@ pub put-at-spec : {M : Type 1} → stated.statement M
 unfolding code.routine tablesOf
 put-at-spec 𝓤 H 𝓜 𝓖 𝓡 =
     entered 𝓤 H (tripleOf 𝓤 H (𝓖 .A) put-at.signature (put-at.spec 𝓤 H (𝓖 .A) (𝓜 .mem) (𝓡 .run)))
-    (tables 𝓤 H 𝓜 𝓡 code.env .C) (tables 𝓤 H 𝓜 𝓡 code.env .Λ) #sessions·put-at code.function (code.unfolded 𝓤 H 𝓜 𝓡)
+    (tables 𝓤 H 𝓜 𝓡 code.env .C) (tables 𝓤 H 𝓜 𝓡 code.env .Λ) #session-table·put-at code.function (code.unfolded 𝓤 H 𝓜 𝓡)
     (put-at-meets 𝓤 H (𝓖 .A) (givenOf 𝓤 H 𝓜 𝓖) (𝓜 .mem) (𝓡 .run) (tablesOf 𝓤 H 𝓜 (tables 𝓤 H 𝓜 𝓡 code.env))
     )

@@ -1,38 +1,39 @@
 -- Right because a free record is put in the place of the one that lookup takes, and the number tells whether that was used. A walk of the MIR, by hand: the table is lent as `&` for `find` and `at`, comes back, and goes to `put_at` for good.
 -- Assumes nothing.
-use Rattle.sessions.proofs.Kit.{_≡_, refl, ℕ, _<_, _^_, true, List, [], _∷_, length, URA, fullShare, named, w32, w64, Val, vint, SProp, ent, emp, via, id⊢, fst∗, Lft, GName, Share, ftrue, flft, Memory, Routine, Heap, Calls, Loops, WpFn, Tables, Atoms, Fun, givenOf, tables, tablesOf, Given, ‵, raw, _⊛_, ⋆, _$_, _∵_, !, qed, by, move, drop, use0, split, join, fsplit, fjoin, suffices, frame, done, whole, sub, look-in, look, init, stop, fld, from, load, true-lit, of-opd, assigns, land, no-more, and-then, returns, enter, alloc1, alloc0, params1, pass1, pass0, FmC, fmOf, WpFn-mono, owns, Is, uint-makes, uint-vals, uint-tells, uint-lawful, u64, u32, RefT, now, sliceVal, MutSlice, Room, finally, slice-vals, mut-slice-tells, plain, owned, nothing, Vals, onEntry, Meets, tripleOf, Contract, Triple, entered, cited, says, Stays, stay-none, gave-slice, walkOf, goes-none, goes-gave-slice, ends-at, walked, walk-meets, yes}
+use Rattle.session_table.proofs.Kit.{_≡_, refl, ℕ, _<_, _^_, true, List, [], _∷_, length, URA, fullShare, named, w32, w64, Val, vint, SProp, ent, emp, via, id⊢, fst∗, Lft, GName, Share, ftrue, flft, Memory, Routine, Heap, Calls, Loops, WpFn, Tables, Atoms, Fun, givenOf, tables, tablesOf, Given, ‵, raw, _⊛_, ⋆, _$_, _∵_, !, qed, by, move, drop, use0, split, join, fsplit, fjoin, suffices, frame, done, whole, sub, look-in, look, init, stop, fld, from, load, true-lit, of-opd, assigns, land, no-more, and-then, returns, enter, alloc1, alloc0, params1, pass1, pass0, FmC, fmOf, WpFn-mono, owns, Is, uint-makes, uint-vals, uint-tells, uint-lawful, u64, u32, RefT, now, sliceVal, MutSlice, Room, finally, slice-vals, mut-slice-tells, plain, owned, nothing, Vals, onEntry, Meets, tripleOf, Contract, Triple, entered, cited, says, Stays, stay-none, gave-slice, walkOf, goes-none, goes-gave-slice, ends-at, walked, walk-meets, yes}
 use denote.Struct.Laws as LL
-use Rattle.session.specs.declared.Session.{Session}
-use Rattle.session.specs.declared.Changed.{Changed}
-use Rattle.session.specs.OneRecord.{removedOf}
-use Rattle.session.proofs.Changed as Ch
-use Rattle.session.proofs.Changed.Laws as Ch′
-use Rattle.sessions.proofs.Walk.{R, mach, typed, record-owned}
-use Rattle.sessions.proofs.Values.{mach-t, changed-typed}
-use Rattle.sessions.proofs.Leaving.{leaves, holds}
-use Rattle.sessions.proofs.Operands.{local, reborrows}
-use Rattle.protocol.specs.SessionTable.{removeNumber, tableAfterRemoving}
-use Rattle.sessions.specs.Reading.{tableOf}
-use Rattle.sessions.proofs.TableCalls.{removed-says}
-use Rattle.sessions.proofs.Said.{calls-said}
-use Rattle.sessions.proofs.Calls.{ref-at, lend, back, Finds, Gets, Puts, calls-find, calls-get, calls-put}
-use Rattle.sessions.proofs.find.Symbol as find-def
-use Rattle.sessions.proofs.find.Symbol.{name as #sessions·find}
-use Rattle.sessions.proofs.find.Met as find-thm
-use Rattle.sessions.proofs.at.Symbol as at-def
-use Rattle.sessions.proofs.at.Symbol.{name as #sessions·at}
-use Rattle.sessions.proofs.at.Met as at-thm
-use Rattle.sessions.proofs.put_at.Symbol as put-at-def
-use Rattle.sessions.proofs.put_at.Symbol.{name as #sessions·put-at}
-use Rattle.sessions.proofs.put_at.Met as put-at-thm
-use Rattle.session.proofs.remove_record as remove-record
-use Rattle.session.proofs.remove_record.Symbol as remove-record-def
-use Rattle.session.proofs.remove_record.Symbol.{name as #session·remove-record}
-use Rattle.session.proofs.remove_record.Met as remove-record-thm
-use Rattle.sessions.proofs.remove.Key.{name as #sessions·remove}
-use Rattle.sessions.proofs.remove as remove
-use Rattle.sessions.proofs.remove.Statement as stated
-use Rattle.sessions.proofs.remove.Code as code
+use Rattle.session_record.specs.declared.Session.{Session}
+use Rattle.session_record.specs.declared.Changed.{Changed}
+use Rattle.session_record.specs.Contracts.{removedOf}
+use Rattle.session_record.proofs.Changed as Ch
+use Rattle.session_record.proofs.Changed.Laws as Ch′
+use Rattle.session_table.proofs.Walk.{R, mach, typed, record-owned}
+use Rattle.session_table.proofs.Values.{mach-t, changed-typed}
+use Rattle.session_table.proofs.Leaving.{leaves, holds}
+use Rattle.session_table.proofs.Operands.{local, reborrows}
+use Rattle.protocol.specs.Calls.{removing, onlyTable}
+use Rattle.protocol.specs.Contract.{Returns}
+use Rattle.session_table.specs.Reading.{tableOf}
+use Rattle.session_table.proofs.TableCalls.{removed-says}
+use Rattle.session_table.proofs.Said.{calls-said}
+use Rattle.session_table.proofs.Calls.{ref-at, lend, back, Finds, Gets, Puts, calls-find, calls-get, calls-put}
+use Rattle.session_table.proofs.find.Symbol as find-def
+use Rattle.session_table.proofs.find.Symbol.{name as #session-table·find}
+use Rattle.session_table.proofs.find.Met as find-thm
+use Rattle.session_table.proofs.at.Symbol as at-def
+use Rattle.session_table.proofs.at.Symbol.{name as #session-table·at}
+use Rattle.session_table.proofs.at.Met as at-thm
+use Rattle.session_table.proofs.put_at.Symbol as put-at-def
+use Rattle.session_table.proofs.put_at.Symbol.{name as #session-table·put-at}
+use Rattle.session_table.proofs.put_at.Met as put-at-thm
+use Rattle.session_record.proofs.remove_record as remove-record
+use Rattle.session_record.proofs.remove_record.Symbol as remove-record-def
+use Rattle.session_record.proofs.remove_record.Symbol.{name as #session-record·remove-record}
+use Rattle.session_record.proofs.remove_record.Met as remove-record-thm
+use Rattle.session_table.proofs.remove.Key.{name as #session-table·remove}
+use Rattle.session_table.proofs.remove as remove
+use Rattle.session_table.proofs.remove.Statement as stated
+use Rattle.session_table.proofs.remove.Code as code
 
 abbrev stayed : Stays (remove.ended .signature .params) (remove.ended .kept)
 stayed = (gave-slice (0 ∷ []) tt (plain (λ _. R)), (stay-none (λ _. u64) yes, tt))
@@ -60,7 +61,7 @@ module _ {M : Type 1} (𝓤 : URA M) (H : Heap 𝓤) (A : Atoms 𝓤) (W : Given
   abbrev Post : Val → SProp 𝓤
   Post = walkOf 𝓤 H A remove.ended stayed (remove.clauses 𝓤 H A mem run) .post (((κ, tt), (q, tt), tt, a, vals), tt)
 
-  exits : (r : ℕ) (v : Val) (zs : List Session) → Is u32 r (v ∷ []) → length zs ≡ length ys → (r ≡ removeNumber id (tableOf ys)) × (tableOf zs ≡ tableAfterRemoving id (tableOf ys))
+  exits : (r : ℕ) (v : Val) (zs : List Session) → Is u32 r (v ∷ []) → length zs ≡ length ys → Returns (removing id) (onlyTable (tableOf ys)) r (onlyTable (tableOf zs))
       → ent 𝓤 (⋆ 𝓤 H A (‵ (flft κ q) ∷ ‵ (finally R γ zs) ∷ [])) (Post v)
   exits r v zs is lz said =
       qed W (‵ (flft κ q) ∷ ‵ (finally R γ zs) ∷ []) ∵
@@ -69,7 +70,7 @@ module _ {M : Type 1} (𝓤 : URA M) (H : Heap 𝓤) (A : Atoms 𝓤) (W : Given
       nothing ! $ owned ! u64 (Is u64) (uint-makes 𝓤 H A W w64) id _ (refl, id-fits) $ fjoin ! $ move ! (1 ∷ 0 ∷ []) $ fjoin ! $ frame ! $
       owned ! u32 (Is u32) (uint-makes 𝓤 H A W w32) r _ is $ done !
 
-  module _ (C : Calls 𝓤 H) (Λ : Loops 𝓤 H) (fm : FmC 𝓤 H (W .laws) C) (kf : Triple 𝓤 (C #sessions·find) (Finds 𝓤 H A mem run)) (kg : Triple 𝓤 (C #sessions·at) (Gets 𝓤 H A mem run)) (kr : Triple 𝓤 (C #session·remove-record) (Removes 𝓤 H A mem run)) (kp : Triple 𝓤 (C #sessions·put-at) (Puts 𝓤 H A mem run)) where
+  module _ (C : Calls 𝓤 H) (Λ : Loops 𝓤 H) (fm : FmC 𝓤 H (W .laws) C) (kf : Triple 𝓤 (C #session-table·find) (Finds 𝓤 H A mem run)) (kg : Triple 𝓤 (C #session-table·at) (Gets 𝓤 H A mem run)) (kr : Triple 𝓤 (C #session-record·remove-record) (Removes 𝓤 H A mem run)) (kp : Triple 𝓤 (C #session-table·put-at) (Puts 𝓤 H A mem run)) where
     walk : ent 𝓤 (onEntry 𝓤 H A remove.signature (κ, tt) (q, tt) a vals) (WpFn 𝓤 H C Λ code.function (sl ∷ vint w64 id ∷ []) Post)
     walk =
         qed W ((‵ (flft κ q) ⊛ ‵ ftrue) ∷ ‵ (owns (MutSlice (named 0) κ R ∷ u64 ∷ []) a vals) ∷ []) ∵ enter ! C Λ code.function (sl ∷ vint w64 id ∷ []) _ $
@@ -98,7 +99,7 @@ module _ {M : Type 1} (𝓤 : URA M) (H : Heap 𝓤) (A : Atoms 𝓤) (W : Given
         returns ! (look ! 26 refl) $ leaves ! 2 (holds _ ∷ holds _ ∷ holds _ ∷ holds _ ∷ holds _ ∷ holds _ ∷ holds _ ∷ holds _ ∷ holds _ ∷ holds _ ∷ holds _ ∷ holds _ ∷ holds _ ∷ []) refl $
         by ! (exits (t .number) _ zs (parts .0) lz (removed-says ys zs id i s t e e′ et ez))))))))))))))))))))
 
-remove-meets : {M : Type 1} (𝓤 : URA M) (H : Heap 𝓤) (A : Atoms 𝓤) (W : Given 𝓤 H A) (mem : Memory → SProp 𝓤) (run : Routine → Fun 𝓤) (𝓣 : Tables 𝓤 H) → Triple 𝓤 (𝓣 .C #sessions·find) (Finds 𝓤 H A mem run) → Triple 𝓤 (𝓣 .C #sessions·at) (Gets 𝓤 H A mem run) → Triple 𝓤 (𝓣 .C #session·remove-record) (Removes 𝓤 H A mem run) → Triple 𝓤 (𝓣 .C #sessions·put-at) (Puts 𝓤 H A mem run) → Meets 𝓤 H A remove.signature (WpFn 𝓤 H (𝓣 .C) (𝓣 .Λ) code.function) (remove.spec 𝓤 H A mem run)
+remove-meets : {M : Type 1} (𝓤 : URA M) (H : Heap 𝓤) (A : Atoms 𝓤) (W : Given 𝓤 H A) (mem : Memory → SProp 𝓤) (run : Routine → Fun 𝓤) (𝓣 : Tables 𝓤 H) → Triple 𝓤 (𝓣 .C #session-table·find) (Finds 𝓤 H A mem run) → Triple 𝓤 (𝓣 .C #session-table·at) (Gets 𝓤 H A mem run) → Triple 𝓤 (𝓣 .C #session-record·remove-record) (Removes 𝓤 H A mem run) → Triple 𝓤 (𝓣 .C #session-table·put-at) (Puts 𝓤 H A mem run) → Meets 𝓤 H A remove.signature (WpFn 𝓤 H (𝓣 .C) (𝓣 .Λ) code.function) (remove.spec 𝓤 H A mem run)
 remove-meets 𝓤 H A W mem run 𝓣 kf kg kr kp =
     walk-meets 𝓤 H A remove.ended stayed W (goes-gave-slice 𝓤 H A W 1 0 tt (plain (λ _. R)), (goes-none 𝓤 H A W 1 (λ _. u64) yes (λ κs x f. refl), tt)) (remove.clauses 𝓤 H A mem run)
     (WpFn 𝓤 H (𝓣 .C) (𝓣 .Λ) code.function) (WpFn-mono 𝓤 H (W .laws) 𝓣 code.function)
@@ -110,9 +111,9 @@ pub remove-spec : {M : Type 1} → stated.statement M
 unfolding code.routine tablesOf
 remove-spec 𝓤 H 𝓜 𝓖 𝓡 =
     entered 𝓤 H (tripleOf 𝓤 H (𝓖 .A) remove.signature (remove.spec 𝓤 H (𝓖 .A) (𝓜 .mem) (𝓡 .run)))
-    (tables 𝓤 H 𝓜 𝓡 code.env .C) (tables 𝓤 H 𝓜 𝓡 code.env .Λ) #sessions·remove code.function (code.unfolded 𝓤 H 𝓜 𝓡)
+    (tables 𝓤 H 𝓜 𝓡 code.env .C) (tables 𝓤 H 𝓜 𝓡 code.env .Λ) #session-table·remove code.function (code.unfolded 𝓤 H 𝓜 𝓡)
     (remove-meets 𝓤 H (𝓖 .A) (givenOf 𝓤 H 𝓜 𝓖) (𝓜 .mem) (𝓡 .run) (tablesOf 𝓤 H 𝓜 (tables 𝓤 H 𝓜 𝓡 code.env))
-    (cited 𝓤 H (Finds 𝓤 H (𝓖 .A) (𝓜 .mem) (𝓡 .run)) 𝓜 𝓡 code.env #sessions·find find-def.routine code.calls-sessions·find (find-thm.met 𝓤 H 𝓜 𝓖 𝓡))
-    (cited 𝓤 H (Gets 𝓤 H (𝓖 .A) (𝓜 .mem) (𝓡 .run)) 𝓜 𝓡 code.env #sessions·at at-def.routine code.calls-sessions·at (at-thm.met 𝓤 H 𝓜 𝓖 𝓡))
-    (cited 𝓤 H (Removes 𝓤 H (𝓖 .A) (𝓜 .mem) (𝓡 .run)) 𝓜 𝓡 code.env #session·remove-record remove-record-def.routine code.calls-session·remove-record (remove-record-thm.met 𝓤 H 𝓜 𝓖 𝓡))
-    (cited 𝓤 H (Puts 𝓤 H (𝓖 .A) (𝓜 .mem) (𝓡 .run)) 𝓜 𝓡 code.env #sessions·put-at put-at-def.routine code.calls-sessions·put-at (put-at-thm.met 𝓤 H 𝓜 𝓖 𝓡)))
+    (cited 𝓤 H (Finds 𝓤 H (𝓖 .A) (𝓜 .mem) (𝓡 .run)) 𝓜 𝓡 code.env #session-table·find find-def.routine code.calls-session-table·find (find-thm.met 𝓤 H 𝓜 𝓖 𝓡))
+    (cited 𝓤 H (Gets 𝓤 H (𝓖 .A) (𝓜 .mem) (𝓡 .run)) 𝓜 𝓡 code.env #session-table·at at-def.routine code.calls-session-table·at (at-thm.met 𝓤 H 𝓜 𝓖 𝓡))
+    (cited 𝓤 H (Removes 𝓤 H (𝓖 .A) (𝓜 .mem) (𝓡 .run)) 𝓜 𝓡 code.env #session-record·remove-record remove-record-def.routine code.calls-session-record·remove-record (remove-record-thm.met 𝓤 H 𝓜 𝓖 𝓡))
+    (cited 𝓤 H (Puts 𝓤 H (𝓖 .A) (𝓜 .mem) (𝓡 .run)) 𝓜 𝓡 code.env #session-table·put-at put-at-def.routine code.calls-session-table·put-at (put-at-thm.met 𝓤 H 𝓜 𝓖 𝓡)))

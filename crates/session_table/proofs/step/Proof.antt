@@ -1,37 +1,36 @@
 -- Right because the record that lookup takes is put back with its counter that much further. A walk of the MIR, by hand: the table is lent as `&` for `find` and `at`, comes back, and goes to `put_at` for good.
 -- Assumes nothing.
-use Rattle.sessions.proofs.Kit.{_≡_, refl, ℕ, _<_, _^_, true, List, [], _∷_, length, URA, fullShare, named, w64, Val, vint, SProp, ent, emp, via, id⊢, fst∗, Lft, GName, Share, ftrue, flft, Memory, Routine, Heap, Calls, Loops, WpFn, Tables, Atoms, Fun, givenOf, tables, tablesOf, Given, ‵, raw, _⊛_, ⋆, _$_, _∵_, !, qed, by, move, drop, use0, split, join, fsplit, fjoin, suffices, frame, done, whole, sub, look-in, look, init, stop, from, true-lit, of-opd, assigns, land, no-more, and-then, returns, enter, alloc1, alloc0, params1, pass1, pass0, FmC, fmOf, WpFn-mono, owns, Is, uint-makes, uint-vals, uint-tells, u64, RefT, now, sliceVal, MutSlice, Room, finally, slice-vals, mut-slice-tells, plain, owned, nothing, Vals, onEntry, Meets, tripleOf, Contract, Triple, entered, cited, says, Stays, stay-none, gave-slice, walkOf, goes-none, goes-gave-slice, ends-at, walked, walk-meets, yes, unit-lit, vunit, feqI}
+use Rattle.session_table.proofs.Kit.{_≡_, refl, ℕ, _<_, _^_, true, List, [], _∷_, length, URA, fullShare, named, w64, Val, vint, SProp, ent, emp, via, id⊢, fst∗, Lft, GName, Share, ftrue, flft, Memory, Routine, Heap, Calls, Loops, WpFn, Tables, Atoms, Fun, givenOf, tables, tablesOf, Given, ‵, raw, _⊛_, ⋆, _$_, _∵_, !, qed, by, move, drop, use0, split, join, fsplit, fjoin, suffices, frame, done, whole, sub, look-in, look, init, stop, from, true-lit, of-opd, assigns, land, no-more, and-then, returns, enter, alloc1, alloc0, params1, pass1, pass0, FmC, fmOf, WpFn-mono, owns, Is, uint-makes, uint-vals, uint-tells, u64, RefT, now, sliceVal, MutSlice, Room, finally, slice-vals, mut-slice-tells, plain, owned, nothing, Vals, onEntry, Meets, tripleOf, Contract, Triple, entered, cited, says, Stays, stay-none, gave-slice, walkOf, goes-none, goes-gave-slice, ends-at, walked, walk-meets, yes, unit-lit, vunit, feqI}
 use denote.Struct.Laws as LL
-use Rattle.session.specs.declared.Session.{Session}
-use Rattle.session.specs.Records.{sessionOf}
-use Rattle.protocol.specs.SessionTable.{changeRecord}
-use Rattle.protocol.specs.Transform.{counterStep}
-use Rattle.session.proofs.Session as T
-use Rattle.session.proofs.Session.Laws as T′
-use Rattle.sessions.proofs.TableCalls.{stepped-says}
-use Rattle.sessions.proofs.Walk.{R, mach, typed, record-owned}
-use Rattle.sessions.proofs.Leaving.{leaves, holds}
-use Rattle.sessions.proofs.Operands.{local, reborrows}
-use Rattle.sessions.specs.Reading.{tableOf}
-use Rattle.sessions.proofs.Said.{calls-said}
-use Rattle.sessions.proofs.Calls.{ref-at, lend, back, Finds, Gets, Puts, calls-find, calls-get, calls-put}
-use Rattle.sessions.proofs.find.Symbol as find-def
-use Rattle.sessions.proofs.find.Symbol.{name as #sessions·find}
-use Rattle.sessions.proofs.find.Met as find-thm
-use Rattle.sessions.proofs.at.Symbol as at-def
-use Rattle.sessions.proofs.at.Symbol.{name as #sessions·at}
-use Rattle.sessions.proofs.at.Met as at-thm
-use Rattle.sessions.proofs.put_at.Symbol as put-at-def
-use Rattle.sessions.proofs.put_at.Symbol.{name as #sessions·put-at}
-use Rattle.sessions.proofs.put_at.Met as put-at-thm
-use Rattle.session.proofs.step_record as step-record
-use Rattle.session.proofs.step_record.Symbol as step-record-def
-use Rattle.session.proofs.step_record.Symbol.{name as #session·step-record}
-use Rattle.session.proofs.step_record.Met as step-record-thm
-use Rattle.sessions.proofs.step.Key.{name as #sessions·step}
-use Rattle.sessions.proofs.step as step
-use Rattle.sessions.proofs.step.Statement as stated
-use Rattle.sessions.proofs.step.Code as code
+use Rattle.session_record.specs.declared.Session.{Session}
+use Rattle.session_record.specs.Reading.{sessionOf}
+use Rattle.protocol.specs.SessionTable.{changeRecord, counterStep}
+use Rattle.session_record.proofs.Session as T
+use Rattle.session_record.proofs.Session.Laws as T′
+use Rattle.session_table.proofs.TableCalls.{stepped-says}
+use Rattle.session_table.proofs.Walk.{R, mach, typed, record-owned}
+use Rattle.session_table.proofs.Leaving.{leaves, holds}
+use Rattle.session_table.proofs.Operands.{local, reborrows}
+use Rattle.session_table.specs.Reading.{tableOf}
+use Rattle.session_table.proofs.Said.{calls-said}
+use Rattle.session_table.proofs.Calls.{ref-at, lend, back, Finds, Gets, Puts, calls-find, calls-get, calls-put}
+use Rattle.session_table.proofs.find.Symbol as find-def
+use Rattle.session_table.proofs.find.Symbol.{name as #session-table·find}
+use Rattle.session_table.proofs.find.Met as find-thm
+use Rattle.session_table.proofs.at.Symbol as at-def
+use Rattle.session_table.proofs.at.Symbol.{name as #session-table·at}
+use Rattle.session_table.proofs.at.Met as at-thm
+use Rattle.session_table.proofs.put_at.Symbol as put-at-def
+use Rattle.session_table.proofs.put_at.Symbol.{name as #session-table·put-at}
+use Rattle.session_table.proofs.put_at.Met as put-at-thm
+use Rattle.session_record.proofs.step_record as step-record
+use Rattle.session_record.proofs.step_record.Symbol as step-record-def
+use Rattle.session_record.proofs.step_record.Symbol.{name as #session-record·step-record}
+use Rattle.session_record.proofs.step_record.Met as step-record-thm
+use Rattle.session_table.proofs.step.Key.{name as #session-table·step}
+use Rattle.session_table.proofs.step as step
+use Rattle.session_table.proofs.step.Statement as stated
+use Rattle.session_table.proofs.step.Code as code
 
 abbrev stayed : Stays (step.ended .signature .params) (step.ended .kept)
 stayed = (gave-slice (0 ∷ []) tt (plain (λ _. R)), (stay-none (λ _. u64) yes, (stay-none (λ _. u64) yes, tt)))
@@ -68,7 +67,7 @@ module _ {M : Type 1} (𝓤 : URA M) (H : Heap 𝓤) (A : Atoms 𝓤) (W : Given
       nothing ! $ owned ! u64 (Is u64) (uint-makes 𝓤 H A W w64) far _ (refl, far-fits) $ fjoin ! $ owned ! u64 (Is u64) (uint-makes 𝓤 H A W w64) id _ (refl, id-fits) $ fjoin ! $ move ! (1 ∷ 0 ∷ []) $ fjoin ! $ frame ! $
       feqI ! (List Val) (vunit ∷ []) (vunit ∷ []) refl $ done !
 
-  module _ (C : Calls 𝓤 H) (Λ : Loops 𝓤 H) (fm : FmC 𝓤 H (W .laws) C) (kf : Triple 𝓤 (C #sessions·find) (Finds 𝓤 H A mem run)) (kg : Triple 𝓤 (C #sessions·at) (Gets 𝓤 H A mem run)) (kr : Triple 𝓤 (C #session·step-record) (Steps 𝓤 H A mem run)) (kp : Triple 𝓤 (C #sessions·put-at) (Puts 𝓤 H A mem run)) where
+  module _ (C : Calls 𝓤 H) (Λ : Loops 𝓤 H) (fm : FmC 𝓤 H (W .laws) C) (kf : Triple 𝓤 (C #session-table·find) (Finds 𝓤 H A mem run)) (kg : Triple 𝓤 (C #session-table·at) (Gets 𝓤 H A mem run)) (kr : Triple 𝓤 (C #session-record·step-record) (Steps 𝓤 H A mem run)) (kp : Triple 𝓤 (C #session-table·put-at) (Puts 𝓤 H A mem run)) where
     walk : ent 𝓤 (onEntry 𝓤 H A step.signature (κ, tt) (q, tt) a vals) (WpFn 𝓤 H C Λ code.function (sl ∷ vint w64 id ∷ vint w64 far ∷ []) Post)
     walk =
         qed W ((‵ (flft κ q) ⊛ ‵ ftrue) ∷ ‵ (owns (MutSlice (named 0) κ R ∷ u64 ∷ u64 ∷ []) a vals) ∷ []) ∵ enter ! C Λ code.function (sl ∷ vint w64 id ∷ vint w64 far ∷ []) _ $
@@ -96,7 +95,7 @@ module _ {M : Type 1} (𝓤 : URA M) (H : Heap 𝓤) (A : Atoms 𝓤) (W : Given
         returns ! (look ! 28 refl) $ leaves ! 2 (holds _ ∷ holds _ ∷ holds _ ∷ holds _ ∷ holds _ ∷ holds _ ∷ holds _ ∷ holds _ ∷ holds _ ∷ holds _ ∷ holds _ ∷ holds _ ∷ holds _ ∷ holds _ ∷ []) refl $
         by ! (exits zs lz (stepped-says ys zs far id i s t e e′ et ez)))))))))))))))))))))
 
-step-meets : {M : Type 1} (𝓤 : URA M) (H : Heap 𝓤) (A : Atoms 𝓤) (W : Given 𝓤 H A) (mem : Memory → SProp 𝓤) (run : Routine → Fun 𝓤) (𝓣 : Tables 𝓤 H) → Triple 𝓤 (𝓣 .C #sessions·find) (Finds 𝓤 H A mem run) → Triple 𝓤 (𝓣 .C #sessions·at) (Gets 𝓤 H A mem run) → Triple 𝓤 (𝓣 .C #session·step-record) (Steps 𝓤 H A mem run) → Triple 𝓤 (𝓣 .C #sessions·put-at) (Puts 𝓤 H A mem run) → Meets 𝓤 H A step.signature (WpFn 𝓤 H (𝓣 .C) (𝓣 .Λ) code.function) (step.spec 𝓤 H A mem run)
+step-meets : {M : Type 1} (𝓤 : URA M) (H : Heap 𝓤) (A : Atoms 𝓤) (W : Given 𝓤 H A) (mem : Memory → SProp 𝓤) (run : Routine → Fun 𝓤) (𝓣 : Tables 𝓤 H) → Triple 𝓤 (𝓣 .C #session-table·find) (Finds 𝓤 H A mem run) → Triple 𝓤 (𝓣 .C #session-table·at) (Gets 𝓤 H A mem run) → Triple 𝓤 (𝓣 .C #session-record·step-record) (Steps 𝓤 H A mem run) → Triple 𝓤 (𝓣 .C #session-table·put-at) (Puts 𝓤 H A mem run) → Meets 𝓤 H A step.signature (WpFn 𝓤 H (𝓣 .C) (𝓣 .Λ) code.function) (step.spec 𝓤 H A mem run)
 step-meets 𝓤 H A W mem run 𝓣 kf kg kr kp =
     walk-meets 𝓤 H A step.ended stayed W (goes-gave-slice 𝓤 H A W 1 0 tt (plain (λ _. R)), (goes-none 𝓤 H A W 1 (λ _. u64) yes (λ κs x f. refl), (goes-none 𝓤 H A W 1 (λ _. u64) yes (λ κs x f. refl), tt))) (step.clauses 𝓤 H A mem run)
     (WpFn 𝓤 H (𝓣 .C) (𝓣 .Λ) code.function) (WpFn-mono 𝓤 H (W .laws) 𝓣 code.function)
@@ -108,9 +107,9 @@ pub step-spec : {M : Type 1} → stated.statement M
 unfolding code.routine tablesOf
 step-spec 𝓤 H 𝓜 𝓖 𝓡 =
     entered 𝓤 H (tripleOf 𝓤 H (𝓖 .A) step.signature (step.spec 𝓤 H (𝓖 .A) (𝓜 .mem) (𝓡 .run)))
-    (tables 𝓤 H 𝓜 𝓡 code.env .C) (tables 𝓤 H 𝓜 𝓡 code.env .Λ) #sessions·step code.function (code.unfolded 𝓤 H 𝓜 𝓡)
+    (tables 𝓤 H 𝓜 𝓡 code.env .C) (tables 𝓤 H 𝓜 𝓡 code.env .Λ) #session-table·step code.function (code.unfolded 𝓤 H 𝓜 𝓡)
     (step-meets 𝓤 H (𝓖 .A) (givenOf 𝓤 H 𝓜 𝓖) (𝓜 .mem) (𝓡 .run) (tablesOf 𝓤 H 𝓜 (tables 𝓤 H 𝓜 𝓡 code.env))
-    (cited 𝓤 H (Finds 𝓤 H (𝓖 .A) (𝓜 .mem) (𝓡 .run)) 𝓜 𝓡 code.env #sessions·find find-def.routine code.calls-sessions·find (find-thm.met 𝓤 H 𝓜 𝓖 𝓡))
-    (cited 𝓤 H (Gets 𝓤 H (𝓖 .A) (𝓜 .mem) (𝓡 .run)) 𝓜 𝓡 code.env #sessions·at at-def.routine code.calls-sessions·at (at-thm.met 𝓤 H 𝓜 𝓖 𝓡))
-    (cited 𝓤 H (Steps 𝓤 H (𝓖 .A) (𝓜 .mem) (𝓡 .run)) 𝓜 𝓡 code.env #session·step-record step-record-def.routine code.calls-session·step-record (step-record-thm.met 𝓤 H 𝓜 𝓖 𝓡))
-    (cited 𝓤 H (Puts 𝓤 H (𝓖 .A) (𝓜 .mem) (𝓡 .run)) 𝓜 𝓡 code.env #sessions·put-at put-at-def.routine code.calls-sessions·put-at (put-at-thm.met 𝓤 H 𝓜 𝓖 𝓡)))
+    (cited 𝓤 H (Finds 𝓤 H (𝓖 .A) (𝓜 .mem) (𝓡 .run)) 𝓜 𝓡 code.env #session-table·find find-def.routine code.calls-session-table·find (find-thm.met 𝓤 H 𝓜 𝓖 𝓡))
+    (cited 𝓤 H (Gets 𝓤 H (𝓖 .A) (𝓜 .mem) (𝓡 .run)) 𝓜 𝓡 code.env #session-table·at at-def.routine code.calls-session-table·at (at-thm.met 𝓤 H 𝓜 𝓖 𝓡))
+    (cited 𝓤 H (Steps 𝓤 H (𝓖 .A) (𝓜 .mem) (𝓡 .run)) 𝓜 𝓡 code.env #session-record·step-record step-record-def.routine code.calls-session-record·step-record (step-record-thm.met 𝓤 H 𝓜 𝓖 𝓡))
+    (cited 𝓤 H (Puts 𝓤 H (𝓖 .A) (𝓜 .mem) (𝓡 .run)) 𝓜 𝓡 code.env #session-table·put-at put-at-def.routine code.calls-session-table·put-at (put-at-thm.met 𝓤 H 𝓜 𝓖 𝓡)))
