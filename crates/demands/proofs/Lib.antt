@@ -15,4 +15,5 @@ pub mod Following
 pub mod OpeningLaws
 pub mod Demand3
 pub mod OtherRecords
+pub mod UnderKey
 pub mod Example

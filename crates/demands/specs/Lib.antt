@@ -7,3 +7,4 @@ pub mod Chains
 pub mod Steps
 pub mod Demand3
 pub mod OtherRecords
+pub mod UnderKey
