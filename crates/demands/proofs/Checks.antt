@@ -16,7 +16,7 @@ use Rattle.octets.proofs.SameLaws.{same-self, same-equal}
 use Rattle.protocol.specs.Bytes.{Bytes}
 use Rattle.protocol.specs.Answer.{Test}
 use Rattle.protocol.specs.Connection.{Connection, knownDialect, encrypts, cipherUsed}
-use Rattle.protocol.specs.TransformHeader.{protocolId, inner, originalMessageSize, flagsOf, sessionIdOf}
+use Rattle.protocol.specs.TransformHeader.{headerOf, protocolId, inner, originalMessageSize, flagsOf, sessionIdOf}
 use Rattle.protocol.specs.SessionTable.{Session, openingKey}
 use Rattle.protocol.specs.Transform.{Primitives, plaintextUnder}
 use Rattle.protocol.specs.Calls.{openingUnder, Lent, keyTests, messageTests, headerTests, recordTests, textTests, openTests, plaintext, tests}
@@ -107,7 +107,7 @@ key-passes key l = past-line _ (ap not (eq-eqb (length key) 16 l)) no-line
 
 module _ (c : Connection) (m : Bytes) where
   -- 1 to 5
-  header-passes : HeaderChecks c m → None (messageTests c m ++ headerTests m)
+  header-passes : HeaderChecks c m → None (messageTests c m ++ headerTests (headerOf m))
   header-passes h =
       past-line _ (ap not (says-encrypts c (h .encrypts)))
       (past-line _ (lt-leb (length m) 52 (h .long))
