@@ -45,6 +45,7 @@ consistency:
 	@rt fmt --check
 	@scripts/vectors --check
 	@scripts/test-with "the file that the exchange must write" python3-cryptography -- scripts/exchange --check
+	@scripts/numbers --check
 	@scripts/docs-check
 	@scripts/crates-picture --check
 
@@ -57,8 +58,9 @@ AGAIN = $(MAKE) --silent --no-print-directory
 programs:
 	@scripts/test-with "the C tests" libssl-dev -- $(AGAIN) run-programs
 
+# Under the sanitizers, other random calls than as it is, and fewer.
 run-programs: $(PROGRAMS)
-	@for t in $(PROGRAMS); do $$t || exit 1; done
+	@for t in $(filter-out %sanitized/random_test,$(PROGRAMS)) "$(BUILD)/sanitized/random_test 2 20000"; do $$t || exit 1; done
 
 valgrind:
 	@scripts/test-with "the C tests under valgrind" libssl-dev valgrind -- $(AGAIN) run-valgrind
