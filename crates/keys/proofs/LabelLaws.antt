@@ -12,7 +12,8 @@ use Rattle.protocol.proofs.SuiteLaws.{kdf-is}
 pub key-is : (r key label context : Bytes) → r ≡ deriveSha256 16 key label context → r ≡ kdf key label context
 key-is r key label context e = e ∙ sym (kdf-is key label context)
 
-pub same-keys : (k l : Keys) → k .signing ≡ l .signing → k .application ≡ l .application → k .clientToServer ≡ l .clientToServer → k .serverToClient ≡ l .serverToClient → k ≡ l
+pub same-keys : (k l : Keys) → k .signing ≡ l .signing → k .application ≡ l .application → k .clientToServer ≡ l .clientToServer
+    → k .serverToClient ≡ l .serverToClient → k ≡ l
 same-keys k l s a c d = λ i. record { signing = s i; application = a i; clientToServer = c i; serverToClient = d i }
 
 module _ (dialect : ℕ) (chain key : Bytes) where

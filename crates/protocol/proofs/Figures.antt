@@ -17,7 +17,8 @@ use Rattle.protocol.specs.Answer.{refused}
 use Rattle.protocol.specs.Connection.{Connection, client, lastCounter}
 use Rattle.protocol.specs.Compound.{walk}
 use Rattle.protocol.specs.Preauth.{setupResponse, freshChain}
-use Rattle.protocol.specs.Keys.{sessionKey, smbSigningKey, smbAppKey, smbC2SCipherKey, smbS2CCipherKey, smb2AesCmac, smb2App, smb2AesCcm, smbSign, smbRpc, serverIn, serverOut}
+use Rattle.protocol.specs.Keys.{sessionKey, smbSigningKey, smbAppKey, smbC2SCipherKey, smbS2CCipherKey, smb2AesCmac, smb2App, smb2AesCcm, smbSign}
+use Rattle.protocol.specs.Keys.{smbRpc, serverIn, serverOut}
 use Rattle.protocol.specs.TransformHeader.{nonceOf, authenticated}
 use Rattle.protocol.specs.Ciphers.{ccmNonce, gcmNonce}
 use Rattle.protocol.specs.Calls.{folding, sealingUnder, openingUnder, onlyChain, onlyMessage, messageAndCounter, tests, answer}
@@ -62,13 +63,25 @@ gcm-blocks : (nonce : Bytes) → length nonce ≡ 16 → length (preCounterBlock
 unfolding toBigEndian
 gcm-blocks nonce l = simp length-append (omega (arith, length-take-le 12 nonce (omega arith)))
 
+labels-311 : lengths (smbSigningKey ∷ smbAppKey ∷ smbC2SCipherKey ∷ smbS2CCipherKey ∷ []) ≡ 14 ∷ 10 ∷ 16 ∷ 16 ∷ []
+unfolding smbSigningKey smbAppKey smbC2SCipherKey smbS2CCipherKey
+labels-311 = refl
+
+labels-300 : lengths (smb2AesCmac ∷ smb2App ∷ smb2AesCcm ∷ []) ≡ 12 ∷ 8 ∷ 11 ∷ []
+unfolding smb2AesCmac smb2App smb2AesCcm
+labels-300 = refl
+
+contexts-300 : lengths (smbSign ∷ smbRpc ∷ serverIn ∷ serverOut ∷ []) ≡ 8 ∷ 7 ∷ 10 ∷ 10 ∷ []
+unfolding smbSign smbRpc serverIn serverOut
+contexts-300 = refl
+
 pub figures : Figures
-unfolding smbSigningKey smbAppKey smbC2SCipherKey smbS2CCipherKey smb2AesCmac smb2App smb2AesCcm smbSign smbRpc serverIn serverOut zeroPadded nonceOf authenticated toLittleEndian littleEndian toBigEndian sameBytes flags associated walk tests
+unfolding zeroPadded nonceOf authenticated toLittleEndian littleEndian toBigEndian sameBytes flags associated walk tests
 figures =
     record {
-      labels-311 = refl;
-      labels-300 = refl;
-      contexts-300 = refl;
+      labels-311 = labels-311;
+      labels-300 = labels-300;
+      contexts-300 = contexts-300;
       short-material = refl;
       length-first = refl;
       first-flags = λ n size id. refl;

@@ -16,10 +16,12 @@ use Rattle.protocol.specs.Compound.{walk}
 use Rattle.protocol.specs.Refusals.{otherSession, counterUsedUp}
 use Rattle.protocol.specs.SessionTable.{Session, sealingKey, openingKey}
 use Rattle.protocol.specs.Transform.{Primitives, plaintextUnder}
-use Rattle.protocol.specs.Calls.{sealingUnder, openingUnder, onlyMessage, messageAndCounter, keyTests, messageTests, headerTests, recordTests, textTests, sealTests, openTests, verdict, tests, answer}
+use Rattle.protocol.specs.Calls.{sealingUnder, openingUnder, onlyMessage, messageAndCounter, keyTests, messageTests, headerTests, recordTests}
+use Rattle.protocol.specs.Calls.{textTests, sealTests, openTests, verdict, tests, answer}
 use Rattle.protocol.proofs.Judging.{judge-passed, judge-append}
 
-module _ (P : Primitives) (c : Connection) (s : Session) (known : s .used ≡ true) (free : c .constrained ≡ false) (plain : (s .guest || s .anonymous) ≡ false) where
+module _ (P : Primitives) (c : Connection) (s : Session) (known : s .used ≡ true) (free : c .constrained ≡ false)
+    (plain : (s .guest || s .anonymous) ≡ false) where
   record-passes : (x : Answer) → judge (recordTests c s) x ≡ x
   record-passes x = judge-passed (recordTests c s) x (ap not known, (free, (plain, tt)))
 

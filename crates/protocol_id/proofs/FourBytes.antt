@@ -24,7 +24,8 @@ four m p h =
     ∙ ap (λ (r : List ℕ). getD m (p + 2) 0 ∷ r) (step m (p + 3) (p + 4) 0 (omega arith) (omega arith))))
 
 pub four-same : (m : List ℕ) (p a b c d : ℕ) → p + 4 ≤ length m
-    → (eqb (getD m p 0) a && (eqb (getD m (p + 1) 0) b && (eqb (getD m (p + 2) 0) c && eqb (getD m (p + 3) 0) d))) ≡ sameBytes (bytesAt p 4 m) (a ∷ b ∷ c ∷ d ∷ [])
+    → (eqb (getD m p 0) a && (eqb (getD m (p + 1) 0) b && (eqb (getD m (p + 2) 0) c && eqb (getD m (p + 3) 0) d))) ≡ sameBytes (bytesAt p 4 m)
+    (a ∷ b ∷ c ∷ d ∷ [])
 unfolding sameBytes
 four-same m p a b c d h =
     sym (ap (λ (x : List ℕ). sameBytes x (a ∷ b ∷ c ∷ d ∷ [])) (four m p h) ∙ rw (and-true (eqb (getD m (p + 3) 0) d)))

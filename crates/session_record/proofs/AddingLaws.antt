@@ -60,13 +60,28 @@ unfolding derivedKeys
 derived-long d chain key = go (eqb d 0x0311)
   where
     go : (b : Bool) → Long (cond b (keys311 kdf chain key) (keys300 kdf key))
-    go true = record { one = suite-sound .key-length key _ _; two = suite-sound .key-length key _ _; three = suite-sound .key-length key _ _; four = suite-sound .key-length key _ _ }
-    go false = record { one = suite-sound .key-length key _ _; two = suite-sound .key-length key _ _; three = suite-sound .key-length key _ _; four = suite-sound .key-length key _ _ }
+    go true =
+        record {
+          one = suite-sound .key-length key _ _;
+          two = suite-sound .key-length key _ _;
+          three = suite-sound .key-length key _ _;
+          four =
+              suite-sound .key-length key _ _;
+        }
+    go false =
+        record {
+          one = suite-sound .key-length key _ _;
+          two = suite-sound .key-length key _ _;
+          three = suite-sound .key-length key _ _;
+          four =
+              suite-sound .key-length key _ _;
+        }
 
 abbrev heldKeys : Bool → Bytes → Bytes → Bytes → Bytes → Keys
 heldKeys b s p f g = record { signing = s; application = p; clientToServer = cond b table.zeroKey f; serverToClient = cond b table.zeroKey g }
 
-held-keys : (b : Bool) (k : Keys) → Long k → (p : Bytes) → p ≡ keysInOrder k → heldKeys b (bytesAt 0 16 p) (bytesAt 16 16 p) (bytesAt 32 16 p) (bytesAt 48 16 p) ≡ table.keysHeld b k
+held-keys : (b : Bool) (k : Keys) → Long k → (p : Bytes) → p ≡ keysInOrder k
+    → heldKeys b (bytesAt 0 16 p) (bytesAt 16 16 p) (bytesAt 32 16 p) (bytesAt 48 16 p) ≡ table.keysHeld b k
 held-keys b k l p e =
     ap (λ (x : Bytes). heldKeys b (bytesAt 0 16 x) (bytesAt 16 16 x) (bytesAt 32 16 x) (bytesAt 48 16 x)) e
     ∙ (λ j. heldKeys b
@@ -139,7 +154,8 @@ module _ (a : Adding) (chain material : Bytes) (taken room : Bool) (old : table.
     unfolding recordWith
     made =
         ap (λ (k : Keys). record { used = true; id = a .id; guest = a .guest; anonymous = a .anonymous; keys = k; counter = 0 })
-        (held-keys (a .guest || a .anonymous) (derivedKeys kdf (a .dialect) chain (sessionKey material)) (derived-long (a .dialect) chain (sessionKey material)) after written)
+        (held-keys (a .guest || a .anonymous) (derivedKeys kdf (a .dialect) chain (sessionKey material))
+        (derived-long (a .dialect) chain (sessionKey material)) after written)
 
     pub add-done : (new : table.Session) → new ≡ recordWith a after → AddsWith x taken room old n new
     add-done new en =
@@ -152,13 +168,32 @@ module _ (a : Adding) (chain material : Bytes) (taken room : Bool) (old : table.
 
 -- ---- for the two functions that make number and record
 
-pub later-is : (id : ℕ) (taken room : Bool) (l20 l21 l22 : ℕ) → l22 ≡ cond (not room) 22 0 → l21 ≡ cond taken 21 l22 → l20 ≡ cond (eqb id 0) 20 l21 → l20 ≡ firstOf (idZero id ∷ idTaken taken ∷ tableFull room ∷ [])
+pub later-is : (id : ℕ) (taken room : Bool) (l20 l21 l22 : ℕ) → l22 ≡ cond (not room) 22 0 → l21 ≡ cond taken 21 l22 → l20 ≡ cond (eqb id 0) 20 l21
+    → l20 ≡ firstOf (idZero id ∷ idTaken taken ∷ tableFull room ∷ [])
 later-is id taken room l20 l21 l22 e22 e21 e20 = e20 ∙ ap (cond (eqb id 0) 20) (e21 ∙ ap (cond taken 21) e22)
 
-pub record-is : (a : Adding) (keys s p f g f′ g′ : Bytes) → s ≡ bytesAt 0 16 keys → p ≡ bytesAt 16 16 keys → f ≡ bytesAt 32 16 keys → f′ ≡ cond (a .guest || a .anonymous) table.zeroKey f → g ≡ bytesAt 48 16 keys → g′ ≡ cond (a .guest || a .anonymous) table.zeroKey g
-    → _≡_ {A = table.Session} (record { used = true; id = a .id; guest = a .guest; anonymous = a .anonymous; keys = record { signing = s; application = p; clientToServer = f′; serverToClient = g′ }; counter = 0 }) (recordWith a keys)
+pub record-is : (a : Adding) (keys s p f g f′ g′ : Bytes) → s ≡ bytesAt 0 16 keys → p ≡ bytesAt 16 16 keys → f ≡ bytesAt 32 16 keys
+    → f′ ≡ cond (a .guest || a .anonymous) table.zeroKey f → g ≡ bytesAt 48 16 keys → g′ ≡ cond (a .guest || a .anonymous) table.zeroKey g
+    → _≡_ {A = table.Session} (record {
+      used = true;
+      id = a .id;
+      guest = a .guest;
+      anonymous = a .anonymous;
+      keys = record
+          { signing = s; application = p; clientToServer = f′; serverToClient = g′ };
+      counter = 0;
+    }) (recordWith a keys)
 unfolding recordWith
 record-is a keys s p f g f′ g′ es ep ef ef′ eg eg′ =
     let first : f′ ≡ cond (a .guest || a .anonymous) table.zeroKey (bytesAt 32 16 keys) = ef′ ∙ ap (cond (a .guest || a .anonymous) table.zeroKey) ef in
     let second : g′ ≡ cond (a .guest || a .anonymous) table.zeroKey (bytesAt 48 16 keys) = eg′ ∙ ap (cond (a .guest || a .anonymous) table.zeroKey) eg in
-    λ j. record { used = true; id = a .id; guest = a .guest; anonymous = a .anonymous; keys = record { signing = es j; application = ep j; clientToServer = first j; serverToClient = second j }; counter = 0 }
+    λ j. record {
+      used =
+          true;
+      id = a .id;
+      guest = a .guest;
+      anonymous = a .anonymous;
+      keys = record
+          { signing = es j; application = ep j; clientToServer = first j; serverToClient = second j };
+      counter = 0;
+    }

@@ -16,7 +16,8 @@ use Rattle.protocol.specs.TransformHeader.{TransformHeader, headerOf, sessionId
 use Rattle.protocol.specs.Compound.{walk}
 use Rattle.protocol.specs.SessionTable.{Session, openingKey}
 use Rattle.protocol.specs.Transform.{openedTo}
-use Rattle.protocol.specs.Calls.{openingUnder, Lent, onlyMessage, messageTests, headerTests, recordTests, textTests, openTests, plaintext, verdict, effect, answer}
+use Rattle.protocol.specs.Calls.{openingUnder, Lent, onlyMessage, messageTests, headerTests, recordTests, textTests, openTests, plaintext, verdict, effect}
+use Rattle.protocol.specs.Calls.{answer}
 use Rattle.protocol.specs.Contract.{Makes}
 use Rattle.protocol.specs.Suite.{suite}
 use Rattle.protocol.proofs.AnswerLaws.{when-part}
@@ -40,12 +41,14 @@ module _ (c : Connection) (s : Session) (m : Bytes) where
   after = judgeAfter (walk (Option·getD (plaintext suite c m s) []) (record { id = sessionIdOf m })) []
 
   -- as the code tests them, a line after the other: what a message that is too short says after 2 counts for nothing
-  module _ (h : TransformHeader) (line6 line4 n : ℕ) (eh : h ≡ headerIn m) (e6 : line6 ≡ firstOf (recordTests c s)) (e4 : line4 ≡ firstElse (headerTests h) line6)
+  module _ (h : TransformHeader) (line6 line4 n : ℕ) (eh : h ≡ headerIn m) (e6 : line6 ≡ firstOf (recordTests c s))
+      (e4 : line4 ≡ firstElse (headerTests h) line6)
       (e : n ≡ firstElse (messageTests c m) line4) where
     said : n ≡ firstOf lines
     said = e ∙ rw (e4, e6, eh) (go (leb (length m) 52) refl)
       where
-        go : (b : Bool) → leb (length m) 52 ≡ b → firstElse (messageTests c m) (firstElse (headerTests (headerIn m)) (firstOf (recordTests c s))) ≡ firstOf lines
+        go : (b : Bool) → leb (length m) 52 ≡ b
+            → firstElse (messageTests c m) (firstElse (headerTests (headerIn m)) (firstOf (recordTests c s))) ≡ firstOf lines
         go true b = rw b
         go false b = rw (header-there m (leb-false (length m) 52 b))
 

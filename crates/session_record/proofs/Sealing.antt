@@ -52,6 +52,7 @@ module _ (c : Connection) (s : Session) (id : ℕ) (m : Bytes) where
           answer = o′ .answers ∙ sym same;
           bytes =
               ap (λ (w : Lent). w .message) (o′ .leaves)
-              ∙ when-part (λ (w : Lent). w .message) (answer suite call (messageAndCounter m (s .counter))) (effect suite call (messageAndCounter m (s .counter))) (messageAndCounter m (s .counter))
+              ∙ when-part (λ (w : Lent). w .message) (answer suite call (messageAndCounter m (s .counter)))
+              (effect suite call (messageAndCounter m (s .counter))) (messageAndCounter m (s .counter))
               ∙ ap (λ (x : Answer). whenDone x (λ k. sealedWith suite c m s id) m) (sym same);
         }

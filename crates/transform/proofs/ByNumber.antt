@@ -30,7 +30,8 @@ module _ (n : ℕ) (x : Cipher) (named : cipherOf n ≡ x) (key nonce auth : Byt
   applied : (text text′ : Bytes) → text′ ≡ x .encrypt key nonce auth text → text′ ≡ (cipherOf n) .encrypt key nonce auth text
   applied text text′ e = rw named e
 
-  sealed : (text text′ r : Bytes) → text′ ≡ x .encrypt key nonce auth text → r ≡ x .tag key nonce auth text → Enciphered (cipherOf n) key nonce auth text text′ r
+  sealed : (text text′ r : Bytes) → text′ ≡ x .encrypt key nonce auth text → r ≡ x .tag key nonce auth text
+      → Enciphered (cipherOf n) key nonce auth text text′ r
   sealed text text′ r e t = record { bytes = rw named e; tagged = rw named t }
 
   opened : (received body body′ : Bytes) (r : Bool) → r ≡ isSome (x .decrypt key nonce auth received body)

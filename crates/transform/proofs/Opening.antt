@@ -129,7 +129,9 @@ module _ (c : Connection) (key : Bytes) (id : ℕ) (m : Bytes) where
 
     module _ (z : n ≡ 0) where
       pub lines-passed : First c key m
-      lines-passed = first-passed c key m 0 (sym (first-of-both (keyTests key ++ messageTests c m) (headerTests (headerOf m) ++ (otherSession (eqb (sessionIdOf m) id) ∷ [])) (sym s ∙ z))) refl
+      lines-passed =
+          first-passed c key m 0
+          (sym (first-of-both (keyTests key ++ messageTests c m) (headerTests (headerOf m) ++ (otherSession (eqb (sessionIdOf m) id) ∷ [])) (sym s ∙ z))) refl
 
       pub message-opens : (used : ℕ) (m′ : Bytes) (a : Answer) → used ≡ cipherUsed c → OpensMessage used key (record { id = id }) m m′ a
           → Makes (openingUnder c key id) (onlyMessage m) a (onlyMessage m′)

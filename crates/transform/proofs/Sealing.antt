@@ -42,7 +42,8 @@ written m pre s x x′ p q lp eq ex e =
         ∙ drop-drop (length s) p m
         ∙ ap (λ (k : ℕ). drop k m) (sym eq)
 
-pub header-written : (m t auth x1 x2 x3 : Bytes) → length t ≡ 16 → length auth ≡ 32 → x1 ≡ paste m 0 protocolId 4 → x2 ≡ paste x1 4 t (length t) → x3 ≡ paste x2 20 auth (length auth)
+pub header-written : (m t auth x1 x2 x3 : Bytes) → length t ≡ 16 → length auth ≡ 32 → x1 ≡ paste m 0 protocolId 4 → x2 ≡ paste x1 4 t (length t)
+    → x3 ≡ paste x2 20 auth (length auth)
     → x3 ≡ transformMessage t auth (inner m)
 header-written m t auth x1 x2 x3 lt la e1 e2 e3 =
     let w1 : x1 ≡ protocolId ++ drop 4 m = written m [] protocolId m x1 0 4 refl refl refl e1 in
@@ -58,7 +59,8 @@ module _ (cipher : ℕ) (key : Bytes) (counter id : ℕ) (m : Bytes) (sized : Si
   message-sealed nonce auth text′ m2 t en ea s e2 =
       let l = sized .long in
       let s′ : Enciphered (cipherOf cipher) key nonce auth (inner m) text′ t = rw (lent m) at s in
-      let body : inner (putMid 52 (length m - 52) m text′) ≡ text′ = ap (drop 52) (back m text′) ∙ drop-at (take 52 m) text′ 52 (length-take-le 52 m (omega arith)) in
+      let body : inner (putMid 52 (length m - 52) m text′) ≡ text′ = ap (drop 52) (back m text′) ∙ drop-at (take 52 m) text′ 52
+      (length-take-le 52 m (omega arith)) in
       e2 ∙ rw (body, s′ .bytes, s′ .tagged, ea, en, length-drop 52 m)
 
 -- ---- the whole: c is what the connection agreed on, k the counter
@@ -98,7 +100,9 @@ module _ (c : Connection) (key : Bytes) (id k : ℕ) (m : Bytes) where
     tests-passed = go a e r
       where
         go : (b : Answer) → b ≡ sealed → isRefused b ≡ false → First c key m
-        go (done j) q s = first-passed c key m 0 (sym (none-first (keyTests key ++ messageTests c m) (judge-done (keyTests key ++ messageTests c m) _ j (sym q) .0))) refl
+        go (done j) q s =
+            first-passed c key m 0
+            (sym (none-first (keyTests key ++ messageTests c m) (judge-done (keyTests key ++ messageTests c m) _ j (sym q) .0))) refl
         go (refused j) q s = absurd (let z : _≡_ {A = ℕ} 0 1 = cc in omega arith)
 
     -- no seal is done at the last counter

@@ -39,7 +39,8 @@ add-p : tie.Need-add-p Inv-loop μ-loop
 add-p c =
     let a = c .before .before .before .before .before .before .before .before .args in
     let l = c .before .before .before .before .loop in
-    let next = goes-on (a .message .now) (envelopeOf (a .e)) (l .p) (l .n) (l .inv) _ (c .before .before .before .next-command .ensures) (c .before .before .if2 .left) _ (c .before .next-number .ensures) (c .if3 .left) in
+    let next = goes-on (a .message .now) (envelopeOf (a .e)) (l .p) (l .n) (l .inv) _ (c .before .before .before .next-command .ensures)
+    (c .before .before .if2 .left) _ (c .before .next-number .ensures) (c .if3 .left) in
     omega arith
 
 add-n : tie.Need-add-n Inv-loop μ-loop
@@ -52,7 +53,8 @@ loop-again : tie.Need-loop-again Inv-loop μ-loop
 loop-again c =
     let a = c .before .before .before .before .before .before .before .before .args in
     let l = c .before .before .before .before .loop in
-    goes-on (a .message .now) (envelopeOf (a .e)) (l .p) (l .n) (l .inv) _ (c .before .before .before .next-command .ensures) (c .before .before .if2 .left) _ (c .before .next-number .ensures) (c .if3 .left)
+    goes-on (a .message .now) (envelopeOf (a .e)) (l .p) (l .n) (l .inv) _ (c .before .before .before .next-command .ensures) (c .before .before .if2 .left)
+    _ (c .before .next-number .ensures) (c .if3 .left)
 
 returns-2 : tie.Need-returns-2 Inv-loop μ-loop
 returns-2 c =
@@ -64,7 +66,8 @@ returns-3 : tie.Need-returns-3 Inv-loop μ-loop
 returns-3 c =
     let a = c .before .before .before .before .before .before .before .before .args in
     let l = c .before .before .before .before .loop in
-    sym (stops (a .message .now) (envelopeOf (a .e)) (l .p) (l .n) (l .inv) _ (c .before .before .before .next-command .ensures) (c .before .before .if2 .left) _ (c .before .next-number .ensures) (c .if3 .taken))
+    sym (stops (a .message .now) (envelopeOf (a .e)) (l .p) (l .n) (l .inv) _ (c .before .before .before .next-command .ensures)
+    (c .before .before .if2 .left) _ (c .before .next-number .ensures) (c .if3 .taken))
 
 pub walk-headers-spec : {M : Type 1} → statement M
 walk-headers-spec =

@@ -16,14 +16,16 @@ returns c =
 write-requires : tie.Need-write-requires
 write-requires c κs =
     let a = c .before .before .before .before .before .before .before .before .before .before .args in
-    place-fits (a .dialect) (a .chain .now) (a .material .now) (a .keys .now) _ (c .before .before .before .before .before .refusal .ensures) (c .before .before .before .before .if1 .left)
+    place-fits (a .dialect) (a .chain .now) (a .material .now) (a .keys .now) _ (c .before .before .before .before .before .refusal .ensures)
+    (c .before .before .before .before .if1 .left)
 
 returns-2 : tie.Need-returns-2
 returns-2 c =
     let a = c .before .before .before .before .before .before .before .before .before .before .before .before .before .args in
     let v = a .chain .now in
     let session-key = c .before .before .before .before .before .before .block-at .ensures in
-    filled (a .dialect) v (a .material .now) (a .keys .now) _ (c .before .before .before .before .before .before .before .before .refusal .ensures) _ (c .before .before .before .before .before .before .before .if1 .left)
+    filled (a .dialect) v (a .material .now) (a .keys .now) _ (c .before .before .before .before .before .before .before .before .refusal .ensures) _
+    (c .before .before .before .before .before .before .before .if1 .left)
     (c .before .before .write .ensures ∙ ap keysInOrder (c .before .before .before .derived .ensures ∙ ap (derivedKeys kdf (a .dialect) v) session-key))
 
 pub derive-spec : {M : Type 1} → statement M

@@ -39,7 +39,8 @@ returns-4 c =
     let v = a .chain .now in
     let next = c .before .before .before .before .before .next-value in
     let fits = sym (past .before .before .admits .ensures) ∙ not-false _ (past .before .if2 .left) in
-    let value = c .before .before .copy .ensures ∙ paste-all v 0 (next .result) (omega (arith, slice-aggregate-copy (c .before .before .before))) ∙ next .ensures in
+    let value = c .before .before .copy .ensures ∙ paste-all v 0 (next .result) (omega (arith, slice-aggregate-copy (c .before .before .before))) ∙
+    next .ensures in
     λ kind agrees. folded-in kind v (a .message .now) (past .before .before .before .if1 .left) fits _ (sym (agrees fits) ∙ not-false _ (past .if3 .left)) value
 
 pub fold-if-spec : {M : Type 1} → statement M

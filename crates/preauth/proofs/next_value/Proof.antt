@@ -28,7 +28,8 @@ returns c =
     let m = c .before .before .before .before .before .before .args .message .now in
     let joined : length (v ++ m) ≡ length v + length m = length-append v m in
     let sizes = c .before .before .before .before .before .before .pre in
-    c .finish .ensures (v ++ m) (omega arith) (c .before .update2 .ensures v (c .before .before .update .ensures [] (c .before .before .before .new .ensures))) ∙ sym (sha512-is (v ++ m))
+    c .finish .ensures (v ++ m) (omega arith)
+    (c .before .update2 .ensures v (c .before .before .update .ensures [] (c .before .before .before .new .ensures))) ∙ sym (sha512-is (v ++ m))
 
 pub next-value-spec : {M : Type 1} → statement M
 next-value-spec =

@@ -16,7 +16,8 @@ returns-2 : tie.Need-returns-2
 returns-2 c =
     let c5 = c .before .before .before .before .before in
     let x = c5 .before .before .before .args in
-    add-done (x .a) (x .chain .now) (x .material .now) (x .there .used) (x .room) (sessionOf (x .old)) _ _ (c .before .before .before .before .derive .ensures) _
+    add-done (x .a) (x .chain .now) (x .material .now) (x .there .used) (x .room) (sessionOf (x .old)) _ _
+    (c .before .before .before .before .derive .ensures) _
     (c .before .before .place-number .ensures) (c .before .if1 .left) _ (c .fresh .ensures)
 
 pub add-record-spec : {M : Type 1} → statement M

@@ -11,7 +11,8 @@ returns : tie.Need-returns
 returns c =
     let c5 = c .before .before .before .before .before in
     let a = c5 .before .before .before .args in
-    open-refused (connectionOf (a .c)) (sessionOf (a .s)) (a .message .now) (headerFrom _) _ _ _ (c5 .read-header .ensures) (c .before .before .before .before .record-number .ensures)
+    open-refused (connectionOf (a .c)) (sessionOf (a .s)) (a .message .now) (headerFrom _) _ _ _ (c5 .read-header .ensures)
+    (c .before .before .before .before .record-number .ensures)
     (c .before .before .before .header-number .ensures) (c .before .message-number .ensures) (c .if1 .taken)
 
 returns-2 : tie.Need-returns-2
@@ -21,7 +22,8 @@ returns-2 c =
     let a = c10 .before .before .before .before .args in
     let key = c5 .opening-key in
     open-done (connectionOf (a .c)) (sessionOf (a .s)) (a .message .now) (headerFrom _) _ _ _ (c10 .before .read-header .ensures) (c10 .record-number .ensures)
-    (c5 .before .before .before .before .header-number .ensures) (c5 .before .before .message-number .ensures) (c5 .before .if1 .left) _ (key .ensures) (key .ok .1 .0 .1) _ _ (c .before .before .open-under .ensures)
+    (c5 .before .before .before .before .header-number .ensures) (c5 .before .before .message-number .ensures) (c5 .before .if1 .left) _ (key .ensures)
+    (key .ok .1 .0 .1) _ _ (c .before .before .open-under .ensures)
 
 pub open-record-spec : {M : Type 1} → statement M
 open-record-spec =

@@ -11,7 +11,8 @@ returns c =
     let c5 = c .before .before .before .before .before in
     let c10 = c5 .before .before .before .before .before in
     let a = c10 .before .args in
-    reported (λ (k : Connection). sealingUnder k (a .key .now) (a .id)) _ _ (c5 .before .before .before .under-key .ensures) (messageAndCounter (a .message .now) (a .counter .now)) _ _
+    reported (λ (k : Connection). sealingUnder k (a .key .now) (a .id)) _ _ (c5 .before .before .before .under-key .ensures)
+    (messageAndCounter (a .message .now) (a .counter .now)) _ _
     (c5 .seal-under .ensures) _ (c .number .ensures) _ _ (c .before .carried-to .ensures)
 
 pub smb3seal-seal-spec : {M : Type 1} → statement M

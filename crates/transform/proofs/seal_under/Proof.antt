@@ -14,14 +14,16 @@ returns : tie.Need-returns
 returns c =
     let c5 = c .before .before .before .before .before in
     let a = c5 .before .args in
-    makes-refused (sealingUnder (connectionOf (a .c)) (a .key .now) (a .id)) (messageAndCounter (a .message .now) (a .counter)) _ (c .before .before .seal-answer .ensures)
+    makes-refused (sealingUnder (connectionOf (a .c)) (a .key .now) (a .id)) (messageAndCounter (a .message .now) (a .counter)) _
+    (c .before .before .seal-answer .ensures)
     (sym (c .before .refused .ensures) ∙ c .if1 .taken)
 
 seal-message-requires : tie.Need-seal-message-requires
 seal-message-requires c κs =
     let c5 = c .before .before .before .before .before in
     let a = c5 .before .before .before .args in
-    let first = tests-passed (connectionOf (a .c)) (a .key .now) (a .id) (a .counter) (a .message .now) _ (c .before .before .before .before .seal-answer .ensures) (sym (c .before .before .before .refused .ensures) ∙ c .before .before .if1 .left) in
+    let first = tests-passed (connectionOf (a .c)) (a .key .now) (a .id) (a .counter) (a .message .now) _
+    (c .before .before .before .before .seal-answer .ensures) (sym (c .before .before .before .refused .ensures) ∙ c .before .before .if1 .left) in
     (first .key-fits, sized (connectionOf (a .c)) (a .key .now) (a .message .now) first)
 
 add-t14 : tie.Need-add-t14
@@ -29,7 +31,8 @@ add-t14 c =
     let c5 = c .before .before .before .before .before in
     let c10 = c5 .before .before .before .before .before in
     let a = c10 .before .args in
-    let up = not-last (connectionOf (a .c)) (a .key .now) (a .id) (a .counter) (a .message .now) _ (c5 .before .before .seal-answer .ensures) (sym (c5 .before .refused .ensures) ∙ c5 .if1 .left) in
+    let up = not-last (connectionOf (a .c)) (a .key .now) (a .id) (a .counter) (a .message .now) _ (c5 .before .before .seal-answer .ensures)
+    (sym (c5 .before .refused .ensures) ∙ c5 .if1 .left) in
     omega arith
 
 returns-2 : tie.Need-returns-2
@@ -37,7 +40,8 @@ returns-2 c =
     let c5 = c .before .before .before .before .before in
     let c10 = c5 .before .before .before .before .before in
     let a = c10 .before .args in
-    seals (connectionOf (a .c)) (a .key .now) (a .id) (a .counter) (a .message .now) _ (c5 .before .before .seal-answer .ensures) (sym (c5 .before .refused .ensures) ∙ c5 .if1 .left) _ _
+    seals (connectionOf (a .c)) (a .key .now) (a .id) (a .counter) (a .message .now) _ (c5 .before .before .seal-answer .ensures)
+    (sym (c5 .before .refused .ensures) ∙ c5 .if1 .left) _ _
     (c .before .before .before .before .cipher-used .ensures) (c .before .before .seal-message .ensures)
 
 pub seal-under-spec : {M : Type 1} → statement M

@@ -28,7 +28,8 @@ returns-4 c =
     let a = past .before .before .before .before .before .before .args in
     let header = sym (past .before .before .before .begins .ensures) ∙ not-false _ (past .before .before .if2 .left) in
     let unrelated = sym (past .before .is-related .ensures) ∙ past .if3 .left in
-    first-14 (a .m .now) (envelopeOf (a .e)) (past .before .before .before .before .if1 .left) header unrelated (λ e. c .if4 .taken (c .before .before .session-id .ensures ∙ e))
+    first-14 (a .m .now) (envelopeOf (a .e)) (past .before .before .before .before .if1 .left) header unrelated
+    (λ e. c .if4 .taken (c .before .before .session-id .ensures ∙ e))
 
 returns-5 : tie.Need-returns-5
 returns-5 c =
@@ -36,7 +37,8 @@ returns-5 c =
     let a = past .before .before .before .before .before .before .args in
     let header = sym (past .before .before .before .begins .ensures) ∙ not-false _ (past .before .before .if2 .left) in
     let unrelated = sym (past .before .is-related .ensures) ∙ past .if3 .left in
-    first-none (a .m .now) (envelopeOf (a .e)) (past .before .before .before .before .if1 .left) header unrelated (sym (c .before .before .session-id .ensures) ∙ c .if4 .left)
+    first-none (a .m .now) (envelopeOf (a .e)) (past .before .before .before .before .if1 .left) header unrelated
+    (sym (c .before .before .session-id .ensures) ∙ c .if4 .left)
 
 pub first-number-spec : {M : Type 1} → statement M
 first-number-spec =

@@ -28,23 +28,28 @@ returns-3 c =
 returns-4 : tie.Need-returns-4
 returns-4 c =
     let a = c .before .before .before .before .before .before .args in
-    next-12 (a .m .now) (envelopeOf (a .e)) (a .p) (a .d) (c .before .before .before .before .if1 .left) (omega arith) (c .before .before .if3 .left) (sym (c .before .begins .ensures) ∙ not-true _ (c .if4 .taken))
+    next-12 (a .m .now) (envelopeOf (a .e)) (a .p) (a .d) (c .before .before .before .before .if1 .left) (omega arith) (c .before .before .if3 .left)
+    (sym (c .before .begins .ensures) ∙ not-true _ (c .if4 .taken))
 
 returns-5 : tie.Need-returns-5
 returns-5 c =
     let past = c .before .before .before .before in
     let a = past .before .before .before .before .before .before .args in
     let header = sym (past .before .begins .ensures) ∙ not-false _ (past .if4 .left) in
-    let said = sym (ap₂ (λ (r : Bool) (i : ℕ). not r && not (eqb i (a .e .id))) (c .before .before .before .is-related .ensures) (c .before .before .session-id .ensures)) in
-    next-14 (a .m .now) (envelopeOf (a .e)) (a .p) (a .d) (past .before .before .before .before .if1 .left) (omega arith) (past .before .before .if3 .left) header (said ∙ c .if5 .taken)
+    let said = sym (ap₂ (λ (r : Bool) (i : ℕ). not r && not (eqb i (a .e .id))) (c .before .before .before .is-related .ensures)
+    (c .before .before .session-id .ensures)) in
+    next-14 (a .m .now) (envelopeOf (a .e)) (a .p) (a .d) (past .before .before .before .before .if1 .left) (omega arith) (past .before .before .if3 .left)
+    header (said ∙ c .if5 .taken)
 
 returns-6 : tie.Need-returns-6
 returns-6 c =
     let past = c .before .before .before .before in
     let a = past .before .before .before .before .before .before .args in
     let header = sym (past .before .begins .ensures) ∙ not-false _ (past .if4 .left) in
-    let said = sym (ap₂ (λ (r : Bool) (i : ℕ). not r && not (eqb i (a .e .id))) (c .before .before .before .is-related .ensures) (c .before .before .session-id .ensures)) in
-    next-none (a .m .now) (envelopeOf (a .e)) (a .p) (a .d) (past .before .before .before .before .if1 .left) (omega arith) (past .before .before .if3 .left) header (said ∙ c .if5 .left)
+    let said = sym (ap₂ (λ (r : Bool) (i : ℕ). not r && not (eqb i (a .e .id))) (c .before .before .before .is-related .ensures)
+    (c .before .before .session-id .ensures)) in
+    next-none (a .m .now) (envelopeOf (a .e)) (a .p) (a .d) (past .before .before .before .before .if1 .left) (omega arith) (past .before .before .if3 .left)
+    header (said ∙ c .if5 .left)
 
 pub next-number-spec : {M : Type 1} → statement M
 next-number-spec =

@@ -9,7 +9,8 @@ use Rattle.session_record.proofs.lines.place_number.Tie as tie
 returns : tie.Need-returns
 returns c =
     let x = c .before .before .before .before .args in
-    later-is (x .id) (x .taken) (x .room) _ _ _ (c .before .before .before .refuse .ensures) (c .before .before .refuse2 .ensures) (c .before .refuse3 .ensures) ∙ rw (eq-eqb (x .first) 0 (c .if1 .taken))
+    later-is (x .id) (x .taken) (x .room) _ _ _ (c .before .before .before .refuse .ensures) (c .before .before .refuse2 .ensures)
+    (c .before .refuse3 .ensures) ∙ rw (eq-eqb (x .first) 0 (c .if1 .taken))
 
 returns-2 : tie.Need-returns-2
 returns-2 c = let x = c .before .before .before .before .args in rw (ne-eqb (x .first) 0 (c .if1 .left))

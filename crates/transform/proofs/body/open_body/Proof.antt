@@ -13,7 +13,8 @@ returns c =
     let c5 = c .before .before .before .before .before in
     let c10 = c5 .before .before .before .before .before in
     let a = c10 .args in
-    tag-wrong (a .cipher) (a .key .now) (headerFrom (a .h)) (envelopeOf (a .e)) (a .text .now) _ _ (c .before .before .before .«open» .ensures) (not-true _ (c .if1 .taken))
+    tag-wrong (a .cipher) (a .key .now) (headerFrom (a .h)) (envelopeOf (a .e)) (a .text .now) _ _ (c .before .before .before .«open» .ensures)
+    (not-true _ (c .if1 .taken))
 
 returns-2 : tie.Need-returns-2
 returns-2 c =
@@ -22,8 +23,10 @@ returns-2 c =
     let c15 = c10 .before .before .before .before .before in
     let a = c15 .before .before .before .args in
     let h = headerFrom (a .h) in
-    restored (a .cipher) (a .key .now) h (envelopeOf (a .e)) (a .text .now) _ _ (c10 .before .«open» .ensures) (not-false _ (c5 .before .before .before .if1 .left))
-    _ (c5 .before .size-then-walk .ensures) (sym (c5 .refused .ensures) ∙ c .before .before .before .before .if2 .taken) _ (c .before .before .apply .ensures (h .authenticatedData))
+    restored (a .cipher) (a .key .now) h (envelopeOf (a .e)) (a .text .now) _ _ (c10 .before .«open» .ensures)
+    (not-false _ (c5 .before .before .before .if1 .left))
+    _ (c5 .before .size-then-walk .ensures) (sym (c5 .refused .ensures) ∙ c .before .before .before .before .if2 .taken) _
+    (c .before .before .apply .ensures (h .authenticatedData))
 
 returns-3 : tie.Need-returns-3
 returns-3 c =
@@ -31,7 +34,8 @@ returns-3 c =
     let c10 = c5 .before .before .before .before .before in
     let a = c10 .before .before .before .before .args in
     let h = headerFrom (a .h) in
-    opened (a .cipher) (a .key .now) h (envelopeOf (a .e)) (a .text .now) _ _ (c5 .before .before .«open» .ensures) (not-false _ (c .before .before .before .before .if1 .left)) _
+    opened (a .cipher) (a .key .now) h (envelopeOf (a .e)) (a .text .now) _ _ (c5 .before .before .«open» .ensures)
+    (not-false _ (c .before .before .before .before .if1 .left)) _
     (c .before .before .size-then-walk .ensures) (sym (c .before .refused .ensures) ∙ c .if2 .left)
 
 pub open-body-spec : {M : Type 1} → statement M

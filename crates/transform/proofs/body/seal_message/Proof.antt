@@ -11,7 +11,8 @@ returns c =
     let c10 = c5 .before .before .before .before .before in
     let s = c10 .before .before in
     let a = s .args in
-    message-sealed (a .cipher) (a .key .now) (a .counter) (a .id) (a .m .now) (s .pre .1) _ _ _ _ _ (c5 .before .before .before .before .nonce .ensures) (c5 .before .before .before .authenticated-bytes .ensures)
+    message-sealed (a .cipher) (a .key .now) (a .counter) (a .id) (a .m .now) (s .pre .1) _ _ _ _ _ (c5 .before .before .before .before .nonce .ensures)
+    (c5 .before .before .before .authenticated-bytes .ensures)
     (c5 .before .seal .ensures) (c .before .before .write-header .ensures)
 
 pub seal-message-spec : {M : Type 1} → statement M
