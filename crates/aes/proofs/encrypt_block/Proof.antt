@@ -4,7 +4,7 @@ use mathlib.Core.Path.{_≡_, _∙_, ap}
 use native.Mathlib.Omega.{arith}
 use lib.ListN.{length}
 use borrow.Author.Needs.{needs}
-use Rattle.aes.specs.Cipher.{cipher}
+use Rattle.rijndael.specs.Cipher.{cipher}
 use Rattle.aes.proofs.encrypt_block.Tie as tie
 use Rattle.aes.proofs.encrypt_block.Statement.{statement}
 

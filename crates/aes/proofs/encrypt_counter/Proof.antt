@@ -1,5 +1,5 @@
 -- Right because the columns of the counter block stand for it.
-use Rattle.aes.proofs.CipherLaws.{named}
+use Rattle.aes_rounds.proofs.CipherLaws.{named}
 use borrow.Author.Needs.{needs}
 use Rattle.aes.proofs.encrypt_counter.Statement.{statement}
 use Rattle.aes.proofs.encrypt_counter.Tie as tie

@@ -1,6 +1,6 @@
 -- Right because the columns of the block stand for the block.
 use borrow.Author.Needs.{needs}
-use Rattle.aes.proofs.CipherLaws.{named}
+use Rattle.aes_rounds.proofs.CipherLaws.{named}
 use Rattle.aes.proofs.encrypt_with.Tie as tie
 use Rattle.aes.proofs.encrypt_with.Statement.{statement}
 
