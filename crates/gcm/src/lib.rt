@@ -4,7 +4,7 @@ mod tags;
 ghost use mathlib.Core.Path.{_≡_};
 ghost use Prim.Native.Nat.{_<_};
 ghost use lib.ListN.{length};
-ghost use Rattle.aes.specs.Words.{SubMixTable};
+ghost use Rattle.aes.specs.Tables.{SubMixTable};
 ghost use Rattle.ctr.specs.BlockCipher.{blockCipher};
 ghost use Rattle.gcm.specs.Gcm.{encrypt};
 ghost use Rattle.gcm.specs.Calls.{Sealed, Opened, longest};

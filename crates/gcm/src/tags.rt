@@ -2,7 +2,7 @@
 ghost use mathlib.Core.Path.{_≡_};
 ghost use Prim.Native.Nat.{ℕ, _<_};
 ghost use lib.ListN.{length};
-ghost use Rattle.aes.specs.Words.{SubMixTable};
+ghost use Rattle.aes.specs.Tables.{SubMixTable};
 ghost use Rattle.octets.specs.Numbers.{toBigEndian};
 ghost use Rattle.ctr.specs.BlockCipher.{blockCipher};
 ghost use Rattle.ghash.specs.Ghash.{ghash};
