@@ -8,7 +8,8 @@ use lib.ListN.{length, getD}
 use Rattle.octets.proofs.Every.{every, at, is, entry, both, both-left, both-right}
 use Rattle.aes_words.specs.Words.{Bytes, byte0, byte1, byte2, byte3}
 use Rattle.aes_tables.specs.Tables.{SubBytesTable, SubMixTable}
-use Rattle.rijndael.specs.Field.{sbox, mul}
+use Rattle.rijndael.specs.Field.{IsInverse, affine, inverse, sbox, mul}
+use Rattle.rijndael.proofs.Inverse.{inverse-is}
 
 -- the bytes of w are f0 k, f1 k, f2 k and f3 k
 abbrev areBytes : (f0 f1 f2 f3 : ℕ → ℕ) → ℕ → ℕ → Bool
@@ -35,3 +36,8 @@ sub-mix-table {xs} e t =
 
 pub sub-bytes-table : {xs : List ℕ} → length xs ≡ 256 → T (every (is sbox) 0 xs) → SubBytesTable xs
 sub-bytes-table {xs} e t = record { entry = λ k h. entry sbox xs t k (rw e h) }
+
+-- 5.1.1, at each of the 256 entries: the affine transformation of the byte's inverse
+pub inverse-then-affine : {xs : List ℕ} → SubBytesTable xs → (k : ℕ) → k < 256 → (getD xs k 0 ≡ affine (inverse k)) × IsInverse k (inverse k)
+unfolding sbox
+inverse-then-affine t k h = (t .entry k h, inverse-is k h)
