@@ -4,7 +4,7 @@ ghost use Prim.Native.Nat.{ℕ, _<_};
 ghost use lib.ListN.{length};
 ghost use Rattle.aes.specs.Tables.{SubMixTable};
 ghost use Rattle.octets.specs.Numbers.{toBigEndian};
-ghost use Rattle.ctr.specs.BlockCipher.{blockCipher};
+ghost use Rattle.aes.specs.BlockCipher.{blockCipher};
 ghost use Rattle.ghash.specs.Ghash.{ghash};
 ghost use Rattle.ghash.specs.Elements.{Prepared};
 ghost use Rattle.gcm.specs.Gcm.{hashSubkey, hashInput, preCounterBlock, tag};

@@ -6,7 +6,9 @@ use Rattle.aes_key_expansion.proofs.expand_key.Tie as tie
 use Rattle.aes_key_expansion.proofs.expand_key.Statement.{statement}
 
 next-key-requires-10 : tie.Need-next-key-requires-10
-next-key-requires-10 c κs = c .before .before .before .before .before .before .before .before .before .before .before .before .before .before .before .before .before .before .before .sbox-table .ensures
+next-key-requires-10 c κs =
+    let c5 = c .before .before .before .before .before .before .before .before .before in
+    c5 .before .before .before .before .before .before .before .before .before .before .sbox-table .ensures
 
 returns : tie.Need-returns
 returns c =

@@ -8,12 +8,6 @@ use Rattle.aes_words.proofs.WordLaws.{begins, xor, own}
 use Rattle.aes_key_expansion.proofs.next_columns.Tie as tie
 use Rattle.aes_key_expansion.proofs.next_columns.Statement.{statement}
 
-sub-rot-word-requires : tie.Need-sub-rot-word-requires
-sub-rot-word-requires c κs = search needs
-
-word-requires : tie.Need-word-requires
-word-requires c κs = search needs
-
 returns : tie.Need-returns
 unfolding stateOf bytesOf nextKey nextWord wordOf xorWord subWord rotWord
 returns c =
@@ -24,4 +18,4 @@ returns c =
     begins w0 (begins w1 (begins w2 (begins (xor (own (k .c3)) w2) refl)))
 
 pub next-columns-spec : {M : Type 1} → statement M
-next-columns-spec = tie.close (tie.spec sub-rot-word-requires word-requires returns)
+next-columns-spec = tie.close (tie.spec (λ c κs. search needs) (λ c κs. search needs) returns)

@@ -3,14 +3,8 @@ use borrow.Author.Needs.{needs}
 use Rattle.aes_rounds.proofs.from_row0.Tie as tie
 use Rattle.aes_rounds.proofs.from_row0.Statement.{statement}
 
-mul-result : tie.Need-mul-result
-mul-result c = search needs
-
-element-copy-out-result : tie.Need-element-copy-out-result
-element-copy-out-result c = search needs
-
 returns : tie.Need-returns
 returns c = c .before .pre .entry (c .before .args .x) (c .before .fits .x .fits)
 
 pub from-row0-spec : {M : Type 1} → statement M
-from-row0-spec = tie.close (tie.spec mul-result element-copy-out-result returns)
+from-row0-spec = tie.close (tie.spec (λ c. search needs) (λ c. search needs) returns)

@@ -2,7 +2,7 @@
 use mathlib.Core.Path.{ap, _∙_}
 use borrow.Author.Needs.{needs}
 use denote.Ref.{now}
-use Rattle.ctr.specs.BlockCipher.{blockCipher}
+use Rattle.aes.specs.BlockCipher.{blockCipher}
 use Rattle.gcm.proofs.tags.encrypt_pre_counter.Statement.{statement}
 use Rattle.gcm.proofs.tags.encrypt_pre_counter.Tie as tie
 
