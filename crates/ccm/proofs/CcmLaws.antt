@@ -14,7 +14,7 @@ use Rattle.octets.proofs.SameLaws.{same-self}
 use Rattle.octets.proofs.XorWith.{length-xor}
 use Rattle.cbc_mac.specs.CbcMac.{cbcMac}
 use Rattle.ctr.proofs.CtrLaws.{length-ctr, ctr-twice}
-use Rattle.ccm.specs.Formatting.{formatted, counterBlock}
+use Rattle.ccm_formatting.specs.Formatting.{formatted, counterBlock}
 use Rattle.ccm.specs.General.{mac, tag, encrypt, decrypt}
 
 module _ (E : List ℕ → List ℕ) where

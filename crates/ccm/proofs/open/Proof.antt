@@ -10,12 +10,11 @@ use Rattle.ccm.proofs.open.Tie as tie
 
 returns : tie.Need-returns
 returns c =
-    let i = c in
-    let u = i .before .before .tag-of in
-    let m = i .before .before .before .before .before .before .before .xor-key-stream in
-    let a = i .before .before .before .before .before .before .before .before .before .before .before .before .args in
+    let u = c .before .before .tag-of in
+    let m = c .before .before .before .before .before .before .before .xor-key-stream in
+    let a = c .before .before .before .before .before .before .before .before .before .before .before .before .args in
     opened-right (blockCipher (now (a .keys))) (a .nonce) (a .aad) (a .tag) (now (a .text))
-    (m .last .1 .1 .1 .0) (u .result) (m .ensures) (u .ensures) (sym (i .before .same-16 .ensures) ∙ i .if1 .taken)
+    (m .last .1 .1 .1 .0) (u .result) (m .ensures) (u .ensures) (sym (c .before .same-16 .ensures) ∙ c .if1 .taken)
 
 returns-2 : tie.Need-returns-2
 returns-2 c =
@@ -35,8 +34,8 @@ open-spec =
     (λ c κs. search needs)
     (λ c κs. search needs)
     (λ c κs. search needs)
+    (λ c κs. search needs)
     (λ c. search needs)
     returns
-    (λ c κs. search needs)
     (λ c. search needs)
     returns-2)

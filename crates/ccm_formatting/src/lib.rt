@@ -1,7 +1,7 @@
 // The formatting of the input data (SP 800-38C, appendix A), for a nonce of 11 bytes and 32 bytes of associated data.
 ghost use mathlib.Core.Path.{_≡_};
 ghost use mathlib.Core.List.{_∷_};
-ghost use Rattle.ccm.specs.Formatting.{associated};
+ghost use Rattle.ccm_formatting.specs.Formatting.{associated};
 
 // What the first block (A.2.1) and the counter blocks (A.3) begin with.
 pub fn flags_and_nonce(flags: u8, nonce: [u8; 11]) -> [u8; 12]

@@ -1,9 +1,9 @@
 -- Right because the two octets of the length are 0 and 32, and the data stand behind them.
 -- Assumes nothing.
-use Rattle.ccm.proofs.Formatted.{associated-right}
+use Rattle.ccm_formatting.proofs.Formatted.{associated-right}
 use borrow.Author.Needs.{needs}
-use Rattle.ccm.proofs.formatting.with_length.Statement.{statement}
-use Rattle.ccm.proofs.formatting.with_length.Tie as tie
+use Rattle.ccm_formatting.proofs.with_length.Statement.{statement}
+use Rattle.ccm_formatting.proofs.with_length.Tie as tie
 
 returns : tie.Need-returns
 returns c = associated-right (c .before .before .before .before .args .t1) _ (search needs) (c .before .copy .ensures)

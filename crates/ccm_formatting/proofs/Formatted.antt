@@ -10,15 +10,12 @@ use Rattle.octets.specs.Blocks.{blockCount, padded, overBlocks}
 use Rattle.octets.specs.Numbers.{toBigEndian}
 use Rattle.octets.proofs.BlockLaws.{length-padded, over-append, over-padded}
 use Rattle.octets.proofs.Paste.{paste-all}
-use Rattle.ccm.specs.Formatting.{flags, associated, counterBlock}
+use Rattle.ccm_formatting.specs.Formatting.{flags, associated}
 
--- the two flags octets
+-- the flags octet of the first block
 pub first-flags : flags 4 16 32 ≡ 0x7B
 unfolding flags
 first-flags = refl
-
-pub counter-flags : (nonce : List ℕ) (i : ℕ) → counterBlock 4 nonce i ≡ 0x03 ∷ nonce ++ toBigEndian 4 i
-counter-flags nonce i = refl
 
 pub associated-32 : (aad : List ℕ) → length aad ≡ 32 → associated aad ≡ 0 ∷ 32 ∷ aad
 unfolding associated toBigEndian

@@ -6,8 +6,8 @@ use native.Mathlib.Omega.{arith}
 use lib.ListN.{length, replicate}
 use Rattle.octets.proofs.Paste.{paste-all}
 use borrow.Author.Needs.{needs}
-use Rattle.ccm.proofs.formatting.flags_and_nonce.Statement.{statement}
-use Rattle.ccm.proofs.formatting.flags_and_nonce.Tie as tie
+use Rattle.ccm_formatting.proofs.flags_and_nonce.Statement.{statement}
+use Rattle.ccm_formatting.proofs.flags_and_nonce.Tie as tie
 
 returns : tie.Need-returns
 returns c =
