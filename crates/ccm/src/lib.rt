@@ -25,11 +25,7 @@ fn tag_of(
     let y0 = cbc_mac::chain(t, keys, [0u8; 16], &first);
     let y1 = cbc_mac::chain(t, keys, y0, &associated);
     let y = cbc_mac::chain(t, keys, y1, text);
-    let s0 = aes::encrypt_with(
-        t,
-        keys,
-        ctr::counter_block(ccm_formatting::flags_and_nonce(3, nonce), 0),
-    );
+    let s0 = aes::encrypt_counter(t, keys, ccm_formatting::flags_and_nonce(3, nonce), 0);
     runs::xor_16(y, s0)
 }
 
