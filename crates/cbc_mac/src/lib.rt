@@ -2,8 +2,8 @@
 ghost use mathlib.Core.Path.{_≡_};
 ghost use Prim.Native.Nat.{_<_};
 ghost use lib.ListN.{length};
-ghost use Rattle.aes.specs.Words.{SubMixTable};
-ghost use Rattle.ctr.specs.BlockCipher.{blockCipher};
+ghost use Rattle.aes.specs.Tables.{SubMixTable};
+ghost use Rattle.aes.specs.BlockCipher.{blockCipher};
 ghost use Rattle.octets.specs.Blocks.{blockCount};
 ghost use Rattle.octets.specs.Xor.{xor};
 ghost use Rattle.cbc_mac.specs.CbcMac.{cbcMac};

@@ -3,9 +3,9 @@ ghost use mathlib.Core.Path.{_≡_};
 ghost use mathlib.Core.List.{_++_};
 ghost use Prim.Native.Nat.{_+_, _<_, _^_};
 ghost use lib.ListN.{length};
-ghost use Rattle.aes.specs.Words.{SubMixTable};
+ghost use Rattle.aes.specs.Tables.{SubMixTable};
 ghost use Rattle.octets.specs.Numbers.{toBigEndian};
-ghost use Rattle.ctr.specs.BlockCipher.{blockCipher};
+ghost use Rattle.aes.specs.BlockCipher.{blockCipher};
 ghost use Rattle.ctr.specs.Ctr.{ctr, counterBlocks};
 
 // The counter block of number n.

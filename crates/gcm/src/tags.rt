@@ -2,12 +2,12 @@
 ghost use mathlib.Core.Path.{_≡_};
 ghost use Prim.Native.Nat.{ℕ, _<_};
 ghost use lib.ListN.{length};
-ghost use Rattle.aes.specs.Words.{SubMixTable};
+ghost use Rattle.aes.specs.Tables.{SubMixTable};
 ghost use Rattle.octets.specs.Numbers.{toBigEndian};
-ghost use Rattle.ctr.specs.BlockCipher.{blockCipher};
+ghost use Rattle.aes.specs.BlockCipher.{blockCipher};
 ghost use Rattle.ghash.specs.Ghash.{ghash};
 ghost use Rattle.ghash.specs.Elements.{Prepared};
-ghost use Rattle.gcm.specs.Gcm.{hashSubkey, hashInput, preCounterBlock, tag};
+ghost use Rattle.gcm.specs.Gcm.{hashSubkey, hashInput, tag};
 ghost use Rattle.gcm.specs.Calls.{longest};
 
 // Step 1: H, ready for GHASH.
@@ -29,14 +29,6 @@ fn hash(k: ghash::HashKey, aad: &[u8], body: &[u8]) -> [u8; 16]
     ghash::block_of(s)
 }
 
-// Steps 2 and 6: E (J₀).
-fn encrypt_pre_counter(t: &[u32; 256], keys: &[[u8; 16]], nonce: [u8; 12]) -> [u8; 16]
-    requires { ⌜ (1 < length (now keys)) × SubMixTable (now t) ⌝ }
-    ensures { λ r. ⌜ r ≡ blockCipher (now (keys .entry)) (preCounterBlock nonce) ⌝ }
-{
-    aes::encrypt_with(t, keys, ctr::counter_block(nonce, 1))
-}
-
 // The tag of the ciphertext `body`.
 pub fn tag_with(
     t: &[u32; 256],
@@ -50,6 +42,7 @@ pub fn tag_with(
 {
     let k = hash_subkey(t, keys);
     let s = hash(k, aad, body);
-    let e = encrypt_pre_counter(t, keys, nonce);
+    // J₀ is the nonce and the number 1 (steps 2 and 6).
+    let e = aes::encrypt_counter(t, keys, nonce, 1);
     runs::xor_16(s, e)
 }

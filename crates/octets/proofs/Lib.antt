@@ -6,3 +6,5 @@ pub mod Elements
 pub mod NumberLaws
 pub mod BlockLaws
 pub mod SameLaws
+pub mod Pairs
+pub mod MaybeLaws

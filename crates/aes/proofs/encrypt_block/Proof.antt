@@ -4,18 +4,9 @@ use mathlib.Core.Path.{_≡_, _∙_, ap}
 use native.Mathlib.Omega.{arith}
 use lib.ListN.{length}
 use borrow.Author.Needs.{needs}
-use Rattle.aes.specs.Cipher.{cipher}
+use Rattle.rijndael.specs.Cipher.{cipher}
 use Rattle.aes.proofs.encrypt_block.Tie as tie
 use Rattle.aes.proofs.encrypt_block.Statement.{statement}
-
-table-requires : tie.Need-table-requires
-table-requires c κs = search needs
-
-slice-aggregate-encrypt-with : tie.Need-slice-aggregate-encrypt-with
-slice-aggregate-encrypt-with c = search needs
-
-encrypt-with-requires : tie.Need-encrypt-with-requires
-encrypt-with-requires c κs = search needs
 
 returns : tie.Need-returns
 returns c =
@@ -26,4 +17,4 @@ returns c =
 
 pub encrypt-block-spec : {M : Type 1} → statement M
 encrypt-block-spec =
-    tie.close (tie.spec table-requires slice-aggregate-encrypt-with encrypt-with-requires returns)
+    tie.close (tie.spec (λ c κs. search needs) (λ c. search needs) (λ c κs. search needs) returns)

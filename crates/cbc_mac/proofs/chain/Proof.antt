@@ -10,7 +10,7 @@ use lib.ListN.{length}
 use Rattle.octets.specs.Blocks.{blockCount, overBlocks}
 use Rattle.octets.specs.Xor.{xor}
 use Rattle.octets.proofs.BlockLaws.{over-turn}
-use Rattle.ctr.specs.BlockCipher.{blockCipher}
+use Rattle.aes.specs.BlockCipher.{blockCipher}
 use Rattle.cbc_mac.specs.CbcMac.{cbcMac}
 use Rattle.cbc_mac.proofs.chain.Statement.{statement}
 use Rattle.cbc_mac.proofs.chain.Tie as tie
@@ -25,21 +25,6 @@ loop-holds : tie.Need-loop-holds Inv-loop μ-loop
 unfolding overBlocks
 loop-holds c = (refl, omega arith, omega arith)
 
-sub-loop : tie.Need-sub-loop Inv-loop μ-loop
-sub-loop c = omega arith
-
-block-at-requires : tie.Need-block-at-requires Inv-loop μ-loop
-block-at-requires c κs = omega arith
-
-next-requires : tie.Need-next-requires Inv-loop μ-loop
-next-requires c κs = search needs
-
-add-at : tie.Need-add-at Inv-loop μ-loop
-add-at c = omega arith
-
-loop-less : tie.Need-loop-less Inv-loop μ-loop
-loop-less c = omega arith
-
 loop-again : tie.Need-loop-again Inv-loop μ-loop
 loop-again c =
     let k = c .before .before .before in
@@ -50,12 +35,6 @@ loop-again c =
       omega arith,
       omega arith,
     )
-
-block-at-requires-2 : tie.Need-block-at-requires-2 Inv-loop μ-loop
-block-at-requires-2 c κs = omega arith
-
-next-requires-2 : tie.Need-next-requires-2 Inv-loop μ-loop
-next-requires-2 c κs = search needs
 
 returns : tie.Need-returns Inv-loop μ-loop
 returns c =
@@ -82,13 +61,13 @@ chain-spec =
     Inv-loop
     μ-loop
     loop-holds
-    sub-loop
-    block-at-requires
-    next-requires
-    add-at
-    loop-less
+    (λ c. omega arith)
+    (λ c κs. omega arith)
+    (λ c κs. search needs)
+    (λ c. omega arith)
+    (λ c. omega arith)
     loop-again
-    block-at-requires-2
-    next-requires-2
+    (λ c κs. omega arith)
+    (λ c κs. search needs)
     returns
     returns-2)

@@ -7,7 +7,7 @@ use denote.Ref.{now}
 use lib.ListN.{length}
 use Rattle.octets.specs.Numbers.{toBigEndian}
 use Rattle.aes.proofs.Lengths.{length-cipher}
-use Rattle.ctr.specs.BlockCipher.{blockCipher}
+use Rattle.aes.specs.BlockCipher.{blockCipher}
 use Rattle.ccm.proofs.Tag.{tag-right}
 use borrow.Author.Needs.{needs}
 use Rattle.ccm.proofs.tag_of.Statement.{statement}
@@ -15,23 +15,23 @@ use Rattle.ccm.proofs.tag_of.Tie as tie
 
 returns : tie.Need-returns
 returns c =
-    let s = c .before .encrypt-with in
-    let z = c .before .before .counter-block2 in
-    let zf = c .before .before .before .flags-and-nonce2 in
-    let y = c .before .before .before .before .chain3 in
-    let y1 = c .before .before .before .before .before .chain2 in
-    let y0 = c .before .before .before .before .before .before .before .chain in
-    let w = c .before .before .before .before .before .before .before .before .before .with-length in
-    let b = c .before .before .before .before .before .before .before .before .before .before .counter-block in
-    let bf = c .before .before .before .before .before .before .before .before .before .before .before .flags-and-nonce in
-    let st = c .before .before .before .before .before .before .before .before .before .before .before .before .before in
+    let s = c .before .encrypt-counter in
+    let zf = c .before .before .flags-and-nonce2 in
+    let y = c .before .before .before .chain3 in
+    let y1 = c .before .before .before .before .chain2 in
+    let y0 = c .before .before .before .before .before .before .chain in
+    let w = c .before .before .before .before .before .before .before .before .with-length in
+    let b = c .before .before .before .before .before .before .before .before .before .counter-block in
+    let bf = c .before .before .before .before .before .before .before .before .before .before .flags-and-nonce in
+    let st = c .before .before .before .before .before .before .before .before .before .before .before .before in
     let a = st .args in
     let keys = now (a .keys) in
-    tag-right (blockCipher keys) (a .nonce) (a .aad) (now (a .text)) (st .good .1 .1 .0 .1 .0 .1) (st .good .1 .1 .1 .0 .1 .0 .1) (length-cipher (length keys - 1) keys)
+    tag-right (blockCipher keys) (a .nonce) (a .aad) (now (a .text)) (st .good .1 .1 .0 .1 .0 .1) (st .good .1 .1 .1 .0 .1 .0 .1)
+    (length-cipher (length keys - 1) keys)
     (b .result) (w .result) (y0 .result) (y1 .result) (y .result) (s .result) _
     (b .ensures ∙ ap (λ (p : List ℕ). p ++ toBigEndian 4 (length (now (a .text)))) (bf .ensures))
     (w .ensures) (y0 .ensures) (y1 .ensures) (y .ensures)
-    (s .ensures ∙ ap (blockCipher keys) (z .ensures ∙ ap (λ (p : List ℕ). p ++ toBigEndian 4 0) (zf .ensures)))
+    (s .ensures ∙ ap (λ (p : List ℕ). blockCipher keys (p ++ toBigEndian 4 0)) (zf .ensures))
     (c .xor-16 .ensures)
 
 pub tag-of-spec : {M : Type 1} → statement M
@@ -45,7 +45,6 @@ tag-of-spec =
     (λ c. search needs)
     (λ c κs. search needs)
     (λ c. search needs)
-    (λ c κs. search needs)
     (λ c κs. search needs)
     (λ c κs. search needs)
     (λ c κs. search needs)

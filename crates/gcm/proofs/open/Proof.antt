@@ -2,7 +2,7 @@
 use mathlib.Core.Path.{sym, _∙_}
 use borrow.Author.Needs.{needs}
 use denote.Ref.{now}
-use Rattle.ctr.specs.BlockCipher.{blockCipher}
+use Rattle.aes.specs.BlockCipher.{blockCipher}
 use Rattle.gcm.proofs.InPlace.{opened-right, opened-wrong}
 use Rattle.gcm.proofs.open.Statement.{statement}
 use Rattle.gcm.proofs.open.Tie as tie

@@ -1,7 +1,7 @@
 -- Right because the tag is taken of the ciphertext.
 use borrow.Author.Needs.{needs}
 use denote.Ref.{now}
-use Rattle.ctr.specs.BlockCipher.{blockCipher}
+use Rattle.aes.specs.BlockCipher.{blockCipher}
 use Rattle.gcm.proofs.InPlace.{sealed}
 use Rattle.gcm.proofs.seal.Statement.{statement}
 use Rattle.gcm.proofs.seal.Tie as tie

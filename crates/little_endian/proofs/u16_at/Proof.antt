@@ -7,7 +7,9 @@ use Rattle.little_endian.proofs.u16_at.Statement.{statement}
 use Rattle.little_endian.proofs.u16_at.Tie as tie
 
 returns : tie.Need-returns
-returns c = cc (little2-is (c .before .before .before .before .before .args .b .now) (c .before .before .before .before .before .args .at) (c .before .before .before .before .before .pre))
+returns c =
+    let start = c .before .before .before .before .before in
+    cc (little2-is (start .args .b .now) (start .args .at) (start .pre))
 
 pub u16-at-spec : {M : Type 1} → statement M
 u16-at-spec =

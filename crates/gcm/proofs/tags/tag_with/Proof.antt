@@ -10,7 +10,7 @@ returns : tie.Need-returns
 unfolding tag
 returns c =
     let s = c .before .before in
-    c .xor-16 .ensures ∙ ap₂ xor (s .hash .ensures _ (s .before .hash-subkey .ensures)) (c .before .encrypt-pre-counter .ensures)
+    c .xor-16 .ensures ∙ ap₂ xor (s .hash .ensures _ (s .before .hash-subkey .ensures)) (c .before .encrypt-counter .ensures)
 
 pub tag-with-spec : {M : Type 1} → statement M
 tag-with-spec =

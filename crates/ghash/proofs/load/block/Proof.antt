@@ -3,7 +3,7 @@ use mathlib.Core.Path.{_≡_, ap, _∙_}
 use lib.ListN.{length}
 use borrow.Author.Needs.{needs}
 use Rattle.octets.specs.Numbers.{bigEndian}
-use Rattle.ghash.proofs.ByteLaws.{zeroPadded-exact}
+use Rattle.octets.proofs.BlockLaws.{zeroPadded-exact}
 use Rattle.ghash.proofs.load.block.Statement.{statement}
 use Rattle.ghash.proofs.load.block.Tie as tie
 
