@@ -6,3 +6,4 @@ pub mod Blocks
 pub mod Padding
 pub mod Streaming
 pub mod Loops
+pub mod Lengths

@@ -13,8 +13,10 @@ slice-aggregate-result c = sym (length-take-le _ _ (omega arith))
 returns : tie.Need-returns
 returns c = let h = length-take-le (c .before .before .args .n) (c .before .before .args .b .now) (omega arith) in omega arith
 
-returns-2 : tie.Need-returns-2
-returns-2 c = search needs
-
 pub prefix-spec : {M : Type 1} → statement M
-prefix-spec = tie.close (tie.spec slice-aggregate-result returns returns-2)
+prefix-spec =
+    tie.close
+    (tie.spec
+    slice-aggregate-result
+    returns
+    (λ c. search needs))

@@ -9,18 +9,6 @@ use borrow.Author.Needs.{needs}
 use Rattle.test_primitives.proofs.hashes.primitives_kdf.Statement.{statement}
 use Rattle.test_primitives.proofs.hashes.primitives_kdf.Tie as tie
 
-derive-16-requires : tie.Need-derive-16-requires
-derive-16-requires c κs = search needs
-
-slice-aggregate-copy : tie.Need-slice-aggregate-copy
-slice-aggregate-copy c = search needs
-
-copy-requires : tie.Need-copy-requires
-copy-requires c κs = search needs
-
-same-length : tie.Need-same-length
-same-length c = search needs
-
 returns : tie.Need-returns
 returns c = let v : length (c .before .before .before .before .before .derive-16 .result) ≡ 16 = c .before .before .before .before .before .derive-16 .ok .1 .0 .1 in writes _ _ _ _ (eq-eqb _ 16 (c .before .before .before .before .before .before .if1 .taken)) (filled _ _ _ (omega arith) (c .before .before .copy .ensures) ∙ c .before .before .before .before .before .derive-16 .ensures)
 
@@ -30,4 +18,10 @@ returns-2 c = writes-not _ _ _ (ne-eqb _ 16 (c .if1 .left))
 pub primitives-kdf-spec : {M : Type 1} → statement M
 primitives-kdf-spec =
     tie.close
-    (tie.spec derive-16-requires slice-aggregate-copy copy-requires same-length returns returns-2)
+    (tie.spec
+    (λ c κs. search needs)
+    (λ c. search needs)
+    (λ c κs. search needs)
+    (λ c. search needs)
+    returns
+    returns-2)

@@ -1,0 +1,30 @@
+-- A key of 16 bytes, by HMAC-SHA-256: half of one block.
+-- Assumes nothing.
+use mathlib.Core.Path.{_≡_, refl, ap, _∙_}
+use mathlib.Core.List.{List, [], _∷_, _++_}
+use Prim.Native.Nat.{ℕ}
+use native.Mathlib.Omega.{arith}
+use lib.ListN.{length, take}
+use lib.Seq.{length-take-le}
+use Rattle.octets.specs.Numbers.{toBigEndian}
+use Rattle.sha2.specs.Sha256.{sha256}
+use Rattle.hmac.specs.Hmac.{hmac}
+use Rattle.hmac.proofs.Lengths.{length-hmac}
+use Rattle.kdf.specs.CounterMode.{fixedInput, block, blocks, derive, deriveSha256}
+
+-- the first half of K(1)
+pub of-first-block : (key label context : List ℕ) → deriveSha256 16 key label context ≡ take 16 (block (hmac sha256) 32 key 1 (fixedInput label context 128))
+unfolding derive blocks
+of-first-block key label context = refl
+
+-- K(1), byte for byte: the counter, the label, the separator, the context, the length in bits
+pub of-bytes : (key label context : List ℕ)
+    → deriveSha256 16 key label context ≡ take 16 (hmac sha256 key (0 ∷ 0 ∷ 0 ∷ 1 ∷ (label ++ (0 ∷ (context ++ (0 ∷ 0 ∷ 0 ∷ 0x80 ∷ []))))))
+unfolding derive blocks block fixedInput toBigEndian
+of-bytes key label context = refl
+
+pub length-derived : (key label context : List ℕ) → length (deriveSha256 16 key label context) ≡ 16
+length-derived key label context =
+    let text : List ℕ = 0 ∷ 0 ∷ 0 ∷ 1 ∷ (label ++ (0 ∷ (context ++ (0 ∷ 0 ∷ 0 ∷ 0x80 ∷ [])))) in
+    let l : length (hmac sha256 key text) ≡ 32 = length-hmac sha256 key text in
+    ap length (of-bytes key label context) ∙ length-take-le 16 (hmac sha256 key text) (omega arith)
