@@ -1,1 +1,1 @@
-pub mod Sixteen
+pub mod CounterModeLaws

@@ -7,3 +7,4 @@ pub mod Padding
 pub mod Streaming
 pub mod Loops
 pub mod Lengths
+pub mod PublishedExamples

@@ -7,7 +7,9 @@ use Rattle.hmac.proofs.hmac.Statement.{statement}
 use Rattle.hmac.proofs.hmac.Tie as tie
 
 returns : tie.Need-returns
-returns c = c .finish .ensures (now (c .before .before .before .before .before .args .key)) (now (c .before .before .before .before .before .args .text)) (c .before .update .ensures _ [] (c .before .before .new .ensures))
+returns c =
+    let a = c .before .before .before .before .before .args in
+    c .finish .ensures (now (a .key)) (now (a .text)) (c .before .update .ensures _ [] (c .before .before .new .ensures))
 
 pub hmac-spec : {M : Type 1} → statement M
 hmac-spec =

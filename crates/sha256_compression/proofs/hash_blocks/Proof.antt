@@ -19,7 +19,7 @@ loop-holds : tie.Need-loop-holds Inv-loop μ-loop
 loop-holds c = taking-start sha256 (c .before .args .hs) (now (c .before .args .m)) (now (c .before .args .k)) (c .before .pre)
 
 loop-again : tie.Need-loop-again Inv-loop μ-loop
-loop-again c = taking-turn sha256 (c .compress .result) (c .before .before .before .loop .inv) (c .before .before .loop-test .taken) (c .compress .ensures)
+loop-again c = taking-turn sha256 (c .before .before .before .loop .inv) (c .before .before .loop-test .taken) (c .compress .ensures)
 
 returns : tie.Need-returns Inv-loop μ-loop
 returns c = taking-end sha256 (c .before .loop .inv) (c .loop-test .left)

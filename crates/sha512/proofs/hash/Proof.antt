@@ -8,7 +8,9 @@ use Rattle.sha512.proofs.hash.Statement.{statement}
 use Rattle.sha512.proofs.hash.Tie as tie
 
 returns : tie.Need-returns
-returns c = c .finish .ensures (now (c .before .before .before .before .args .msg)) (omega (arith, c .before .before .before .before .good .0 .1)) (c .before .update .ensures [] (c .before .before .new .ensures))
+returns c =
+    let s = c .before .before .before .before in
+    c .finish .ensures (now (s .args .msg)) (omega (arith, s .good .0 .1)) (c .before .update .ensures [] (c .before .before .new .ensures))
 
 pub hash-spec : {M : Type 1} → statement M
 hash-spec =

@@ -26,7 +26,8 @@ loop-again : tie.Need-loop-again Inv-loop μ-loop
 loop-again c =
     let b = c .before .before .before .before .u64-bytes in
     let f = c .before .copy in
-    digesting-turn sha512 (f .last .0) (b .result) (c .before .before .before .before .before .before .loop .inv) (omega arith) (c .before .before .before .before .before .loop-test .taken) (b .ensures) (f .ensures) (f .kept .0)
+    let k = c .before .before .before .before .before in
+    digesting-turn sha512 (k .before .loop .inv) (omega arith) (k .loop-test .taken) (b .ensures) (f .ensures) (f .kept .0)
 
 returns : tie.Need-returns Inv-loop μ-loop
 returns c = digesting-end sha512 (c .before .loop .inv) (c .loop-test .left)
