@@ -3,6 +3,8 @@
 use mathlib.Core.Path.{_≡_, refl}
 use mathlib.Core.List.{[], _∷_}
 use Rattle.octets.specs.Numbers.{bigEndianAfter, toBigEndian}
+use Rattle.octets.specs.Same.{sameBytes}
+use Rattle.octets.proofs.SameLaws.{same-equal}
 use Rattle.sha2.specs.Sha2.{hash, digest, hashBlocks, compress, sums, working, rounds, round, t1, t2}
 use Rattle.sha2.specs.Sha2.{schedule, extended, scheduleWord, parse, pad, padding, zeros}
 use Rattle.sha2.specs.Sha256.{sha256, constants256, initial256}
@@ -15,8 +17,8 @@ pub abc-256 : hash sha256 (
     186 ∷ 120 ∷ 22 ∷ 191 ∷ 143 ∷ 1 ∷ 207 ∷ 234 ∷ 65 ∷ 65 ∷ 64 ∷ 222 ∷ 93 ∷ 174 ∷ 34 ∷ 35 ∷
     176 ∷ 3 ∷ 97 ∷ 163 ∷ 150 ∷ 23 ∷ 122 ∷ 156 ∷ 180 ∷ 16 ∷ 255 ∷ 97 ∷ 242 ∷ 0 ∷ 21 ∷ 173 ∷ []
 unfolding hash digest hashBlocks compress sums working rounds round t1 t2 schedule extended scheduleWord parse
-    pad padding zeros bigEndianAfter toBigEndian constants256 initial256
-abc-256 = refl
+    pad padding zeros bigEndianAfter toBigEndian sameBytes constants256 initial256
+abc-256 = same-equal _ _ refl
 
 -- 56 bytes, so two blocks
 pub two-blocks-256 : hash sha256 (
@@ -28,8 +30,8 @@ pub two-blocks-256 : hash sha256 (
     36 ∷ 141 ∷ 106 ∷ 97 ∷ 210 ∷ 6 ∷ 56 ∷ 184 ∷ 229 ∷ 192 ∷ 38 ∷ 147 ∷ 12 ∷ 62 ∷ 96 ∷ 57 ∷
     163 ∷ 60 ∷ 228 ∷ 89 ∷ 100 ∷ 255 ∷ 33 ∷ 103 ∷ 246 ∷ 236 ∷ 237 ∷ 212 ∷ 25 ∷ 219 ∷ 6 ∷ 193 ∷ []
 unfolding hash digest hashBlocks compress sums working rounds round t1 t2 schedule extended scheduleWord parse
-    pad padding zeros bigEndianAfter toBigEndian constants256 initial256
-two-blocks-256 = refl
+    pad padding zeros bigEndianAfter toBigEndian sameBytes constants256 initial256
+two-blocks-256 = same-equal _ _ refl
 
 -- "abc"
 pub abc-512 : hash sha512 (
@@ -40,8 +42,8 @@ pub abc-512 : hash sha512 (
     33 ∷ 146 ∷ 153 ∷ 42 ∷ 39 ∷ 79 ∷ 193 ∷ 168 ∷ 54 ∷ 186 ∷ 60 ∷ 35 ∷ 163 ∷ 254 ∷ 235 ∷ 189 ∷
     69 ∷ 77 ∷ 68 ∷ 35 ∷ 100 ∷ 60 ∷ 232 ∷ 14 ∷ 42 ∷ 154 ∷ 201 ∷ 79 ∷ 165 ∷ 76 ∷ 164 ∷ 159 ∷ []
 unfolding hash digest hashBlocks compress sums working rounds round t1 t2 schedule extended scheduleWord parse
-    pad padding zeros bigEndianAfter toBigEndian constants512 initial512
-abc-512 = refl
+    pad padding zeros bigEndianAfter toBigEndian sameBytes constants512 initial512
+abc-512 = same-equal _ _ refl
 
 -- nothing
 pub empty-512 : hash sha512 []
@@ -51,5 +53,5 @@ pub empty-512 : hash sha512 []
     71 ∷ 208 ∷ 209 ∷ 60 ∷ 93 ∷ 133 ∷ 242 ∷ 176 ∷ 255 ∷ 131 ∷ 24 ∷ 210 ∷ 135 ∷ 126 ∷ 236 ∷ 47 ∷
     99 ∷ 185 ∷ 49 ∷ 189 ∷ 71 ∷ 65 ∷ 122 ∷ 129 ∷ 165 ∷ 56 ∷ 50 ∷ 122 ∷ 249 ∷ 39 ∷ 218 ∷ 62 ∷ []
 unfolding hash digest hashBlocks compress sums working rounds round t1 t2 schedule extended scheduleWord parse
-    pad padding zeros bigEndianAfter toBigEndian constants512 initial512
-empty-512 = refl
+    pad padding zeros bigEndianAfter toBigEndian sameBytes constants512 initial512
+empty-512 = same-equal _ _ refl
