@@ -1,6 +1,5 @@
 // The login: both ends fold its messages, and add the session from the value that they come to.
 use crate::calls;
-use crate::message;
 use crate::show;
 use session::Adding;
 use session::Connection;
@@ -89,8 +88,7 @@ fn heading(id: u64, cipher: u64) {
 
 // What the chains have come to.
 fn values(client: [u8; 64], server: [u8; 64]) {
-    let same = message::same(&client, &server, 0, 64);
-    show::yes_or_no(b"chain values equal", same);
+    show::yes_or_no(b"chain values equal", test_lines::same(&client, &server));
     show::bytes(b"chain value", &client);
 }
 

@@ -1,4 +1,8 @@
 // Messages of 180 bytes: room for the transform header, and 128 bytes inside.
+ghost use mathlib.Core.Path.{_≡_};
+ghost use mathlib.Core.List.{_++_};
+ghost use lib.ListN.{take, drop};
+ghost use Rattle.octets.specs.Same.{sameBytes};
 
 fn low(n: u64) -> u8 {
     (n % 256) as u8
@@ -68,30 +72,16 @@ pub fn damaged(from: [u8; 180], at: usize) -> [u8; 180] {
     m
 }
 
-// Whether the bytes from one place up to another are the same.
-pub fn same(a: &[u8], b: &[u8], from: usize, to: usize) -> bool {
-    let mut i = from;
-    while i < to {
-        if a.len() <= i {
-            return false;
-        }
-        if b.len() <= i {
-            return false;
-        }
-        if a[i] != b[i] {
-            return false;
-        }
-        i += 1;
-    }
-    true
-}
-
 // Whether two messages are the same.
-pub fn equal(a: [u8; 180], b: [u8; 180]) -> bool {
-    same(&a, &b, 0, 180)
+pub fn equal(a: [u8; 180], b: [u8; 180]) -> bool
+    ensures { λ r. ⌜ r ≡ sameBytes a b ⌝ }
+{
+    test_lines::same(&a, &b)
 }
 
 // Whether a message has the header of one, and the rest of another.
-pub fn joined(m: [u8; 180], header: [u8; 180], rest: [u8; 180]) -> bool {
-    same(&m, &header, 0, 52) & same(&m, &rest, 52, 180)
+pub fn joined(m: [u8; 180], header: [u8; 180], rest: [u8; 180]) -> bool
+    ensures { λ r. ⌜ r ≡ sameBytes m (take 52 header ++ drop 52 rest) ⌝ }
+{
+    test_lines::same(&m[..52], &header[..52]) & test_lines::same(&m[52..], &rest[52..])
 }

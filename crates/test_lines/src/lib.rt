@@ -1,23 +1,42 @@
 // What the programs read and write: lines of words, which are byte strings in hexadecimal with one space between two. `-` is the
-// empty string.
-ghost use Prim.Native.Nat.{_≤_, _<_};
-ghost use lib.ListN.{length};
+// empty string. What is written has no contract: nothing is promised of a file. What is read and compared has.
 use libc::STDOUT_FILENO;
+use std::num::wrapping_add_u64;
+ghost use mathlib.Core.Path.{_≡_};
+ghost use Prim.Native.Nat.{_≤_, _<_, _+_, _*_, _%_, _^_};
+ghost use lib.ListN.{length, take, drop};
+ghost use Rattle.octets.specs.Numbers.{bigEndian};
+ghost use Rattle.octets.specs.Same.{sameBytes};
+ghost use Rattle.test_lines.specs.Lines as lines;
 
 // The value of a hexadecimal digit in lower case; 16 for any other byte.
 fn digit(b: u8) -> u8
-    ensures { λ r. ⌜ r ≤ 16 ⌝ }
+    ensures { λ r. ⌜ r ≡ lines.digit b ⌝ }
 {
-    match b {
-        48..=57 => b - 48,
-        97..=102 => b - 87,
-        _ => 16,
+    if (48 <= b) & (b <= 57) {
+        return b - 48;
     }
+    if (97 <= b) & (b <= 102) {
+        return b - 87;
+    }
+    16
+}
+
+// The byte that two digits write; 256 where they are not digits.
+fn pair(x: u8, y: u8) -> u16
+    ensures { λ r. ⌜ r ≡ lines.pair x y ⌝ }
+{
+    let high = digit(x);
+    let low = digit(y);
+    if (high < 16) & (low < 16) {
+        return (high as u16) * 16 + (low as u16);
+    }
+    256
 }
 
 // The byte that the two digits from `at` on write; 256 where they are not two digits.
 fn byte_at(line: &[u8], at: usize) -> u16
-    ensures { λ r. ⌜ r ≤ 256 ⌝ }
+    ensures { λ r. ⌜ r ≡ lines.firstByte (drop at (now (line .entry))) ⌝ }
 {
     if line.len() < 2 {
         return 256;
@@ -25,15 +44,7 @@ fn byte_at(line: &[u8], at: usize) -> u16
     if line.len() - 2 < at {
         return 256;
     }
-    let high = digit(line[at]);
-    let low = digit(line[at + 1]);
-    if 15 < high {
-        return 256;
-    }
-    if 15 < low {
-        return 256;
-    }
-    (high as u16) * 16 + (low as u16)
+    pair(line[at], line[at + 1])
 }
 
 // How many bytes a word wrote, and where the next word begins.
@@ -44,16 +55,16 @@ pub struct Word {
 
 // Reads the byte string at `at` into out, as far as it has room.
 pub fn bytes(line: &[u8], at: usize, out: &mut [u8]) -> Word
-    ensures { λ r. ⌜ r .len ≤ length (now (out .entry)) ⌝ }
+    ensures { λ r. ⌜ lines.Reads (now (line .entry)) at (now (out .entry)) (now (out .exit)) (r .len) (r .next) ⌝ }
 {
     let mut n: usize = 0;
-    while n < out.len() {
-        let b = byte_at(line, word_place(line, at, n));
-        if 255 < b {
-            break;
-        }
+    let mut i = at;
+    let mut b = byte_at(line, i);
+    while (n < out.len()) & (b < 256) {
         out[n] = (b % 256) as u8;
         n += 1;
+        i += 2;
+        b = byte_at(line, i);
     }
     Word {
         len: n,
@@ -61,27 +72,25 @@ pub fn bytes(line: &[u8], at: usize, out: &mut [u8]) -> Word
     }
 }
 
-// Where digit pair n of the word at `at` stands, or the end of the line.
-fn word_place(line: &[u8], at: usize, n: usize) -> usize {
-    if line.len() < at {
-        return line.len();
-    }
-    if (line.len() - at) / 2 < n {
-        return line.len();
-    }
-    at + 2 * n
-}
-
-// The place behind the next space from `at` on, or the end of the line.
-pub fn after_space(line: &[u8], at: usize) -> usize {
+// The place behind the next byte b from `at` on, or the end.
+fn behind(line: &[u8], at: usize, b: u8) -> usize
+    ensures { λ r. ⌜ r ≡ at + lines.behind b (drop at (now (line .entry))) ⌝ }
+{
     let mut i = at;
     while i < line.len() {
-        if line[i] == 32 {
+        if line[i] == b {
             return i + 1;
         }
         i += 1;
     }
     i
+}
+
+// The place behind the next space from `at` on, or the end of the line.
+pub fn after_space(line: &[u8], at: usize) -> usize
+    ensures { λ r. ⌜ r ≡ lines.nextWord (now (line .entry)) at ⌝ }
+{
+    behind(line, at, 32)
 }
 
 // A number of at most eight bytes, and where the next word begins.
@@ -91,20 +100,22 @@ pub struct Number {
 }
 
 // n with one byte more.
-fn shifted(n: u64, b: u8) -> u64 {
-    (n << 8) | (b as u64)
+fn shifted(n: u64, b: u8) -> u64
+    ensures { λ r. ⌜ r ≡ (n * 256 + b) % 2 ^ 64 ⌝ }
+{
+    wrapping_add_u64(n << 8, b as u64)
 }
 
-pub fn read_number(line: &[u8], at: usize) -> Number {
+pub fn read_number(line: &[u8], at: usize) -> Number
+    ensures { λ r. ⌜ (r .value ≡ bigEndian (take 8 (lines.bytesOf (drop at (now (line .entry))))) % 2 ^ 64) × (r .next ≡ lines.nextWord (now (line .entry)) at) ⌝ }
+{
     let mut b = [0u8; 8];
     let w = bytes(line, at, &mut b);
     let len = w.len;
     let mut n: u64 = 0;
     let mut i: usize = 0;
-    while i < 8 {
-        if i < len {
-            n = shifted(n, b[i]);
-        }
+    while i < len {
+        n = shifted(n, b[i]);
         i += 1;
     }
     Number {
@@ -113,43 +124,50 @@ pub fn read_number(line: &[u8], at: usize) -> Number {
     }
 }
 
-// Whether the line begins with a name and a space.
-pub fn is(line: &[u8], name: &[u8]) -> bool {
+// Whether two byte strings are the same.
+pub fn same(a: &[u8], b: &[u8]) -> bool
+    ensures { λ r. ⌜ r ≡ sameBytes (now (a .entry)) (now (b .entry)) ⌝ }
+{
+    if a.len() != b.len() {
+        return false;
+    }
     let mut i: usize = 0;
-    while i < name.len() {
-        if line.len() <= i {
-            return false;
-        }
-        if line[i] != name[i] {
+    while i < a.len() {
+        if a[i] != b[i] {
             return false;
         }
         i += 1;
     }
-    i < line.len()
+    true
+}
+
+// Whether the line begins with a name and has more behind it.
+pub fn is(line: &[u8], name: &[u8]) -> bool
+    ensures { λ r. ⌜ r ≡ lines.begins (now (line .entry)) (now (name .entry)) ⌝ }
+{
+    if line.len() <= name.len() {
+        return false;
+    }
+    same(&line[..name.len()], name)
 }
 
 // The place behind the line that begins at `at`.
 pub fn line_end(text: &[u8], at: usize) -> usize
     requires { ⌜ at < length (now text) ⌝ }
-    ensures { λ r. ⌜ (at < r) × (r ≤ length (now (text .entry))) ⌝ }
+    ensures { λ r. ⌜ (r ≡ at + lines.behind 10 (drop at (now (text .entry)))) × (at < r) × (r ≤ length (now (text .entry))) ⌝ }
 {
-    let mut i = at;
-    while i < text.len() {
-        i += 1;
-        if text[i - 1] == 10 {
-            return i;
-        }
-    }
-    i
+    behind(text, at, 10)
 }
 
-pub fn wide(x: u8) -> usize {
+pub fn wide(x: u8) -> usize
+    ensures { λ r. ⌜ r ≡ x ⌝ }
+{
     x as usize
 }
 
 // The first n bytes of b, or all of them.
 pub fn prefix(b: &[u8], n: usize) -> &[u8]
-    ensures { λ r. ⌜ length (now r) ≤ length (now (b .entry)) ⌝ }
+    ensures { λ r. ⌜ (now r ≡ take n (now (b .entry))) × (length (now r) ≤ length (now (b .entry))) ⌝ }
 {
     if n <= b.len() { &b[..n] } else { b }
 }
