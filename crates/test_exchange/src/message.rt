@@ -1,7 +1,8 @@
 // Messages of 180 bytes: room for the transform header, and 128 bytes inside.
 ghost use mathlib.Core.Path.{_≡_};
 ghost use mathlib.Core.List.{_++_};
-ghost use lib.ListN.{take, drop};
+ghost use lib.Bits.{bitXor};
+ghost use lib.ListN.{getD, set, take, drop};
 ghost use Rattle.octets.specs.Same.{sameBytes};
 
 fn low(n: u64) -> u8 {
@@ -64,7 +65,9 @@ pub fn addressed(from: [u8; 180], id: u64) -> [u8; 180] {
 }
 
 // The message with one bit changed.
-pub fn damaged(from: [u8; 180], at: usize) -> [u8; 180] {
+pub fn damaged(from: [u8; 180], at: usize) -> [u8; 180]
+    ensures { λ r. ⌜ r ≡ set from at (bitXor (getD from at 0) 1) ⌝ }
+{
     let mut m = from;
     if at < 180 {
         m[at] = m[at] ^ 1;

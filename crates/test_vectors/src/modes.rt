@@ -1,10 +1,14 @@
 // SP 800-38C and SP 800-38D. Each line gives: the ciphertext and the tag; 0 and the ciphertext, from opening with a tag that is
 // wrong in its last bit; 1 and the plaintext, from opening with the tag.
 ghost use Prim.Native.Nat.{_<_, _≤_};
-ghost use lib.ListN.{length};
+ghost use mathlib.Core.Path.{_≡_};
+ghost use lib.Bits.{bitXor};
+ghost use lib.ListN.{length, getD, set};
 
 // The tag with its last bit changed.
-fn damaged(tag: [u8; 16]) -> [u8; 16] {
+fn damaged(tag: [u8; 16]) -> [u8; 16]
+    ensures { λ r. ⌜ r ≡ set tag 15 (bitXor (getD tag 15 0) 1) ⌝ }
+{
     let mut t = tag;
     t[15] = t[15] ^ 1;
     t

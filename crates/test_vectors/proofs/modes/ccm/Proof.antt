@@ -8,10 +8,15 @@ use Rattle.test_vectors.proofs.modes.ccm.Statement.{statement}
 use Rattle.test_vectors.proofs.modes.ccm.Tie as tie
 
 slice-aggregate-ccm-there-and-back-2 : tie.Need-slice-aggregate-ccm-there-and-back-2
-slice-aggregate-ccm-there-and-back-2 c = sym (length-take-le _ _ (omega (arith, c .before .before .before .before .bytes4 .kept, c .before .before .before .before .bytes4 .ensures)))
+slice-aggregate-ccm-there-and-back-2 c =
+    let m = c .before .before .before .before .bytes4 in
+    sym (length-take-le _ _ (omega (arith, m .kept, m .ensures)))
 
 ccm-there-and-back-requires : tie.Need-ccm-there-and-back-requires
-ccm-there-and-back-requires c κs = (search needs, omega (arith, length-take-le (c .before .before .before .before .bytes4 .result .len) (c .before .before .before .before .bytes4 .last .1 .1 .0) (omega (arith, c .before .before .before .before .bytes4 .kept, c .before .before .before .before .bytes4 .ensures)), c .before .before .before .before .bytes4 .kept, c .before .before .before .before .bytes4 .ensures))
+ccm-there-and-back-requires c κs =
+    let m = c .before .before .before .before .bytes4 in
+    let l = length-take-le (m .result .len) (m .last .1 .1 .0) (omega (arith, m .kept, m .ensures)) in
+    (search needs, omega (arith, l, m .kept, m .ensures))
 
 pub ccm-spec : {M : Type 1} → statement M
 ccm-spec =

@@ -8,10 +8,16 @@ use Rattle.test_vectors.proofs.modes.gcm.Statement.{statement}
 use Rattle.test_vectors.proofs.modes.gcm.Tie as tie
 
 slice-aggregate-gcm-there-and-back-2 : tie.Need-slice-aggregate-gcm-there-and-back-2
-slice-aggregate-gcm-there-and-back-2 c = sym (length-take-le _ _ (omega (arith, c .before .before .before .before .before .before .bytes4 .kept, c .before .before .before .before .before .before .bytes4 .ensures)))
+slice-aggregate-gcm-there-and-back-2 c =
+    let m = c .before .before .before .before .before .before .bytes4 in
+    sym (length-take-le _ _ (omega (arith, m .kept, m .ensures)))
 
 gcm-there-and-back-requires : tie.Need-gcm-there-and-back-requires
-gcm-there-and-back-requires c κs = (search needs, omega (arith, c .before .prefix .ensures, c .before .before .before .before .before .before .before .before .before .bytes3 .kept), omega (arith, length-take-le (c .before .before .before .before .before .before .bytes4 .result .len) (c .before .before .before .before .before .before .bytes4 .last .1 .1 .0) (omega (arith, c .before .before .before .before .before .before .bytes4 .kept, c .before .before .before .before .before .before .bytes4 .ensures)), c .before .before .before .before .before .before .bytes4 .kept, c .before .before .before .before .before .before .bytes4 .ensures))
+gcm-there-and-back-requires c κs =
+    let k = c .before .before .before .before .before .before in
+    let m = k .bytes4 in
+    let l = length-take-le (m .result .len) (m .last .1 .1 .0) (omega (arith, m .kept, m .ensures)) in
+    (search needs, omega (arith, c .before .prefix .ensures, k .before .before .before .bytes3 .kept), omega (arith, l, m .kept, m .ensures))
 
 pub gcm-spec : {M : Type 1} → statement M
 gcm-spec =

@@ -12,7 +12,10 @@ slice-aggregate-seal-plain : tie.Need-slice-aggregate-seal-plain
 slice-aggregate-seal-plain c = sym (length-take-le _ _ (omega (arith, c .before .before .before .zeros .ok .1 .0 .1)))
 
 seal-plain-requires : tie.Need-seal-plain-requires
-seal-plain-requires c κs = let h = length-take-le (c .before .before .before .before .read-number .result .value + 52) (c .before .before .before .zeros .result) (omega (arith, c .before .before .before .zeros .ok .1 .0 .1)) in omega arith
+seal-plain-requires c κs =
+    let z = c .before .before .before in
+    let h = length-take-le (z .before .read-number .result .value + 52) (z .zeros .result) (omega (arith, z .zeros .ok .1 .0 .1)) in
+    omega arith
 
 pub seal-length-spec : {M : Type 1} → statement M
 seal-length-spec =
