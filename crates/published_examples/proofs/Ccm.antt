@@ -51,14 +51,19 @@ abbrev counters : List (List ℕ)
 counters = counterBlock 8 nonce 0 ∷ counterBlock 8 nonce 1 ∷ []
 
 abbrev stream : List (List ℕ)
-stream = (0x2d ∷ 0x28 ∷ 0x11 ∷ 0x46 ∷ 0x10 ∷ 0x67 ∷ 0x6c ∷ 0x26 ∷ 0x32 ∷ 0xba ∷ 0xd7 ∷ 0x48 ∷ 0x55 ∷ 0x9a ∷ 0x67 ∷ 0x9a ∷ []) ∷ (0x51 ∷ 0x43 ∷ 0x23 ∷ 0x78 ∷ 0xe4 ∷ 0x74 ∷ 0xb3 ∷ 0x39 ∷ 0x71 ∷ 0x31 ∷ 0x84 ∷ 0x84 ∷ 0x10 ∷ 0x3c ∷ 0xdd ∷ 0xfb ∷ []) ∷ []
+stream =
+    (0x2d ∷ 0x28 ∷ 0x11 ∷ 0x46 ∷ 0x10 ∷ 0x67 ∷ 0x6c ∷ 0x26 ∷ 0x32 ∷ 0xba ∷ 0xd7 ∷ 0x48 ∷ 0x55 ∷ 0x9a ∷ 0x67 ∷ 0x9a ∷ [])
+    ∷ (0x51 ∷ 0x43 ∷ 0x23 ∷ 0x78 ∷ 0xe4 ∷ 0x74 ∷ 0xb3 ∷ 0x39 ∷ 0x71 ∷ 0x31 ∷ 0x84 ∷ 0x84 ∷ 0x10 ∷ 0x3c ∷ 0xdd ∷ 0xfb ∷ [])
+    ∷ []
 
 chain-computed : map E chained ≡ values
-unfolding E sbox affine inverse evenPowers mul products xtimes rotated cipher rounds addRoundKey mixColumns mixed shiftRows subBytes state keyExpansion roundKeys words keyWords temp rcon xpower wordOf xorWord subWord rotWord
+unfolding E sbox affine inverse evenPowers mul products xtimes rotated cipher rounds addRoundKey mixColumns mixed shiftRows subBytes state
+    keyExpansion roundKeys words keyWords temp rcon xpower wordOf xorWord subWord rotWord
 chain-computed = refl
 
 stream-computed : map E counters ≡ stream
-unfolding toBigEndian E sbox affine inverse evenPowers mul products xtimes rotated cipher rounds addRoundKey mixColumns mixed shiftRows subBytes state keyExpansion roundKeys words keyWords temp rcon xpower wordOf xorWord subWord rotWord
+unfolding toBigEndian E sbox affine inverse evenPowers mul products xtimes rotated cipher rounds addRoundKey mixColumns mixed shiftRows subBytes state
+    keyExpansion roundKeys words keyWords temp rcon xpower wordOf xorWord subWord rotWord
 stream-computed = refl
 
 at : (xs ys : List (List ℕ)) → map E xs ≡ ys → (k : ℕ) → getD (map E xs) k [] ≡ getD ys k []
