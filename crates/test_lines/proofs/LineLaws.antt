@@ -10,7 +10,7 @@ use native.Mathlib.Omega.{arith}
 use borrow.Author.Tests.{eq-eqb, ne-eqb, lt-ltb, le-ltb, leb-true, ltb-true, ltb-false}
 use lib.Dec.{eqb, leb, ltb}
 use lib.ListN.{length, getD, take, drop, set, length-append, length-take, length-drop, length-set, drop-of-length-le, take-append-drop}
-use lib.Seq.{drop-cons, drop-drop, take-all, take-at, take-length, take-suc, take-suc-set, drop-set-lt, length-take-le}
+use lib.Seq.{drop-cons, drop-drop, take-all, take-at, take-suc, take-suc-set, drop-set-lt, length-take-le}
 use Rattle.octets.specs.Numbers.{bigEndianAfter, bigEndian}
 use Rattle.octets.specs.Same.{sameBytes}
 use Rattle.octets.proofs.NumberLaws.{big-append}

@@ -1,9 +1,9 @@
 -- Each way out of an export, as a law on lists.
 -- Assumes nothing.
-use mathlib.Core.Bool.{Bool, true, false, _&&_}
+use mathlib.Core.Bool.{Bool, true, false, cond, _&&_}
 use mathlib.Core.List.{List}
 use mathlib.Core.Option.{Option, Option·getD}
-use mathlib.Core.Path.{_≡_, refl, ap, _∙_}
+use mathlib.Core.Path.{_≡_, refl, ap, ap₂, _∙_}
 use Prim.Native.Nat.{ℕ, _<_, _-_, _^_}
 use native.Mathlib.Nat.{le-of-eq}
 use native.Mathlib.Omega.{arith}
@@ -49,6 +49,15 @@ module _ (b : Bool) where
   pub opens-not : (decrypted : Option (List ℕ)) (text : List ℕ) (flag : ℕ) → b ≡ false → Opens b decrypted text text flag flag 40
   opens-not decrypted text flag f = record { number = rw f; bytes = rw f; right = rw f }
 
+-- a value of n bytes, put to its place
+pub writes-value : {v out out′ : List ℕ} {r : ℕ} (n : ℕ) (value : List ℕ) → length v ≡ n → v ≡ value → Writes (eqb (length out) (length v)) v out out′ r
+    → Writes (eqb (length out) n) value out out′ r
+writes-value {v} {out} n value l e w =
+    record {
+      number = w .number ∙ ap (λ (k : ℕ). cond (eqb (length out) k) 0 40) l;
+      bytes = w .bytes ∙ ap₂ (λ (k : ℕ) (x : List ℕ). cond (eqb (length out) k) x out) l e;
+    }
+
 -- ---- the tests of lengths
 
 both : (a b : Bool) → (a && b) ≡ true → (a ≡ true) × (b ≡ true)
@@ -89,7 +98,8 @@ module _ (key nonce text : List ℕ) where
     pub gcm-sized : gcmFits key nonce aad tag text ≡ true
         → (length key ≡ 16) × (length nonce ≡ 12) × (length aad < 2 ^ 32 - 16) × (length tag ≡ 16) × (length text < 2 ^ 32 - 16)
     gcm-sized e =
-        let p = five (eqb (length key) 16) (eqb (length nonce) 12) (ltb (length aad) (2 ^ 32 - 16)) (eqb (length tag) 16) (ltb (length text) (2 ^ 32 - 16)) e in (
+        let p = five (eqb (length key) 16) (eqb (length nonce) 12) (ltb (length aad) (2 ^ 32 - 16)) (eqb (length tag) 16)
+        (ltb (length text) (2 ^ 32 - 16)) e in (
           eqb-true (length key) 16 (p .0),
           eqb-true (length nonce) 12 (p .1),
           ltb-true (length aad) (2 ^ 32 - 16) (p .2),

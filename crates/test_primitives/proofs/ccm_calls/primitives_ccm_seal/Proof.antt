@@ -6,10 +6,14 @@ use Rattle.test_primitives.proofs.ccm_calls.primitives_ccm_seal.Stateme
 use Rattle.test_primitives.proofs.ccm_calls.primitives_ccm_seal.Tie as tie
 
 seal-sized-requires : tie.Need-seal-sized-requires
-seal-sized-requires c κs = let a = c .before .before .before .before .before .before .before .before .args in ccm-sized (a .key .now) (a .nonce .now) (a .text .now) (a .aad .now) (a .tag .now) (c .before .before .if1 .taken)
+seal-sized-requires c κs =
+    let a = c .before .before .before .before .before .before .before .before .args in
+    ccm-sized (a .key .now) (a .nonce .now) (a .text .now) (a .aad .now) (a .tag .now) (c .before .before .if1 .taken)
 
 returns : tie.Need-returns
-returns c = seals _ _ _ _ _ _ _ (c .before .before .before .before .before .before .before .if1 .taken) (c .before .before .before .before .seal-sized .ensures .0) (c .before .before .before .before .seal-sized .ensures .1)
+returns c =
+    let s = c .before .before .before .before .seal-sized .ensures in
+    seals _ _ _ _ _ _ _ (c .before .before .before .before .before .before .before .if1 .taken) (s .0) (s .1)
 
 returns-2 : tie.Need-returns-2
 returns-2 c = seals-not _ _ _ _ _ (c .if1 .left)

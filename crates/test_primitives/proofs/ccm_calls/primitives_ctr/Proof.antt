@@ -6,7 +6,9 @@ use Rattle.test_primitives.proofs.ccm_calls.primitives_ctr.Statement.{s
 use Rattle.test_primitives.proofs.ccm_calls.primitives_ctr.Tie as tie
 
 ctr-sized-requires : tie.Need-ctr-sized-requires
-ctr-sized-requires c κs = let a = c .before .before .before .before .before .args in ctr-sized (a .key .now) (a .prefix .now) (a .text .now) (c .before .if1 .taken)
+ctr-sized-requires c κs =
+    let a = c .before .before .before .before .before .args in
+    ctr-sized (a .key .now) (a .prefix .now) (a .text .now) (c .before .if1 .taken)
 
 returns : tie.Need-returns
 returns c = writes _ _ _ _ (c .before .before .before .before .if1 .taken) (c .before .before .ctr-sized .ensures)

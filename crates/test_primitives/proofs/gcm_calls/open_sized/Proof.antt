@@ -6,7 +6,15 @@ use Rattle.test_primitives.proofs.gcm_calls.open_sized.Statement.{state
 use Rattle.test_primitives.proofs.gcm_calls.open_sized.Tie as tie
 
 returns : tie.Need-returns
-returns c = let a = c .before .before .before .before .before .before .before .before .before .before .before .before .before .before in let s = rw (expanded (a .args .key .now) _ _ (a .pre .0) (c .before .before .before .before .before .before .before .before .bytes-16 .ensures) (c .before .before .before .before .before .before .before .expand-key .ensures), whole 12 (a .args .nonce .now) _ (a .pre .1) (c .before .before .before .before .before .before .bytes-12 .ensures), whole 16 (a .args .tag .now) _ (a .pre .3) (c .before .before .before .before .before .bytes-162 .ensures)) at (c .before .before .«open» .ensures) in (s .right, s .bytes)
+returns c =
+    let opened = c .before .before in
+    let x = opened .before .before .before .before .before in
+    let s = x .before .before .before .before .before .before .before in
+    let k = expanded (s .args .key .now) _ _ (s .pre .0) (x .before .bytes-16 .ensures) (x .expand-key .ensures) in
+    let n = whole 12 (s .args .nonce .now) _ (s .pre .1) (opened .before .before .before .before .bytes-12 .ensures) in
+    let t = whole 16 (s .args .tag .now) _ (s .pre .3) (opened .before .before .before .bytes-162 .ensures) in
+    let e = rw (k, n, t) at (opened .«open» .ensures) in
+    (e .right, e .bytes)
 
 pub open-sized-spec : {M : Type 1} → statement M
 open-sized-spec =

@@ -6,10 +6,14 @@ use Rattle.test_primitives.proofs.gcm_calls.primitives_gcm_open.Stateme
 use Rattle.test_primitives.proofs.gcm_calls.primitives_gcm_open.Tie as tie
 
 open-sized-requires : tie.Need-open-sized-requires
-open-sized-requires c κs = let a = c .before .before .before .before .before .before .before .args in gcm-sized (a .key .now) (a .nonce .now) (a .text .now) (a .aad .now) (a .tag .now) (c .before .if1 .taken)
+open-sized-requires c κs =
+    let a = c .before .before .before .before .before .before .before .args in
+    gcm-sized (a .key .now) (a .nonce .now) (a .text .now) (a .aad .now) (a .tag .now) (c .before .if1 .taken)
 
 returns : tie.Need-returns
-returns c = opens _ _ _ _ _ _ _ (c .before .before .before .before .before .if1 .taken) (c .before .before .before .open-sized .ensures .1) (c .before .before .before .open-sized .ensures .0) (c .flag .ensures)
+returns c =
+    let o = c .before .before .before .open-sized .ensures in
+    opens _ _ _ _ _ _ _ (c .before .before .before .before .before .if1 .taken) (o .1) (o .0) (c .flag .ensures)
 
 returns-2 : tie.Need-returns-2
 returns-2 c = opens-not _ _ _ _ (c .if1 .left)
