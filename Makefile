@@ -13,7 +13,7 @@ CFLAGS ?= -O2 -g
 WARNINGS = -std=c11 -Wall -Wextra -Wpedantic -Werror
 SANITIZE = -fsanitize=address,undefined -fno-sanitize-recover=all
 ARCHIVE = target/staticlib/libsmb3seal.a
-PRIMITIVES = target/staticlib/libprimitives.a
+PRIMITIVES = target/staticlib/libtest_primitives.a
 BUILD = target/c
 
 all: dist/libsmb3seal.a dist/smb3seal.h dist/smb3seal_text.h

@@ -1,6 +1,7 @@
 /*
- * Each number, and which comes first. Every set of faults is made at once and must get the number of the first of them in the order
- * of document 01. Then whole fields: every dialect, every cipher, every value of the transform header's Flags.
+ * Each number but 3 (lengths_test.c), and which comes first. Every set of faults is made at once and must get the number of the
+ * first of them in the order of document 01. Then whole fields: every dialect, every cipher, every value of the transform
+ * header's Flags.
  */
 #include <string.h>
 

@@ -1,6 +1,6 @@
 /*
  * Random calls of the five functions, by the library and by the model: the same answers, and the same bytes and numbers in all that
- * was lent. At the end every number that a function can answer must have come up.
+ * was lent. At the end every number that a function can answer must have come up, but 3: lengths_test.c has it.
  *
  * Usage: random_test [SEED [CASES [FIRST]]]: a case is made again by its number, with CASES 1.
  */

@@ -12,12 +12,19 @@ use Rattle.hmac.proofs.Mac.new.Tie as tie
 
 returns : tie.Need-returns
 returns c =
-    let k = c .before .before .before .before .before .before .before .before .key-block .ensures in
-    let i = c .before .before .before .before .before .before .before .xor-repeated in
-    let o = c .before .before .before .before .before .before .xor-repeated2 in
+    let u = c .before .before .before in
+    let o = u .before .before .before .xor-repeated2 in
+    let i = u .before .before .before .before .xor-repeated in
+    let k = u .before .before .before .before .before .key-block .ensures in
     record {
-      inner = subst (λ (l : List ℕ). code.Holds (c .before .before .before .update .result) l) (i .ensures ∙ ap (λ (l : List ℕ). xor l (replicate 64 0x36)) k ∙ sym (append-nil _)) (c .before .before .before .update .ensures [] (c .before .before .before .before .before .new .ensures));
-      outer = subst (λ (l : List ℕ). code.Holds (c .update2 .result) l) (o .ensures ∙ ap (λ (l : List ℕ). xor l (replicate 64 0x5c)) k) (c .update2 .ensures [] (c .before .before .new2 .ensures));
+      inner =
+          subst (λ (l : List ℕ). code.Holds (u .update .result) l)
+          (i .ensures ∙ ap (λ (l : List ℕ). xor l (replicate 64 0x36)) k ∙ sym (append-nil _))
+          (u .update .ensures [] (u .before .before .new .ensures));
+      outer =
+          subst (λ (l : List ℕ). code.Holds (c .update2 .result) l)
+          (o .ensures ∙ ap (λ (l : List ℕ). xor l (replicate 64 0x5c)) k)
+          (c .update2 .ensures [] (c .before .before .new2 .ensures));
     }
 
 pub new-spec : {M : Type 1} → statement M

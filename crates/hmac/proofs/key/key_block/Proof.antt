@@ -16,7 +16,10 @@ returns c = c .zero-padded .ensures ∙ sym (simp (le-leb _ _ (c .before .if1 .t
 
 returns-2 : tie.Need-returns-2
 unfolding keyBlock
-returns-2 c = c .zero-padded2 .ensures ∙ ap (λ (l : List ℕ). zeroPadded 64 l) (c .before .before .hash .ensures) ∙ sym (simp (lt-leb _ _ (c .before .before .before .if1 .left)))
+returns-2 c =
+    c .zero-padded2 .ensures
+    ∙ ap (λ (l : List ℕ). zeroPadded 64 l) (c .before .before .hash .ensures)
+    ∙ sym (simp (lt-leb _ _ (c .before .before .before .if1 .left)))
 
 pub key-block-spec : {M : Type 1} → statement M
 key-block-spec =

@@ -7,9 +7,9 @@ use Rattle.sha512.proofs.padding.length_field.Tie as tie
 
 returns : tie.Need-returns
 returns c =
-    let high = c .before .before .before .before .before .before .before .before .before .u64-bytes in
-    let low = c .before .before .before .before .before .before .before .before .u64-bytes2 in
-    two-words (c .before .before .before .before .before .before .before .before .before .before .args .n) (c .before .before .before .before .before .copy .last .0) (c .before .copy2 .last .0) (high .result) (low .result) (high .ensures) (low .ensures) (c .before .before .before .before .before .copy .ensures) (c .before .copy2 .ensures)
+    let first = c .before .before .before .before .before in
+    let low = first .before .before .before in
+    two-words (low .before .before .args .n) (low .before .u64-bytes .ensures) (low .u64-bytes2 .ensures) (first .copy .ensures) (c .before .copy2 .ensures)
 
 pub length-field-spec : {M : Type 1} → statement M
 length-field-spec =

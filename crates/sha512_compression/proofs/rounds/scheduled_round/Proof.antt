@@ -5,7 +5,6 @@ use denote.Ref.{now}
 use lib.ListN.{length-set}
 use Rattle.sha2.specs.Sha512.{sha512}
 use Rattle.sha2.proofs.Rounds.{goes-one}
-use Rattle.sha512_compression.specs.Code.{of}
 use borrow.Author.Needs.{needs}
 use Rattle.sha512_compression.proofs.rounds.scheduled_round.Statement.{statement}
 use Rattle.sha512_compression.proofs.rounds.scheduled_round.Tie as tie
@@ -13,9 +12,8 @@ use Rattle.sha512_compression.proofs.rounds.scheduled_round.Tie as tie
 returns : tie.Need-returns
 returns c =
     let s = c .before .before .before .before .before .before .before .before in
-    let a = s .args in
     let y = c .before .before .before .schedule-word in
-    (length-set (now (a .w)) _ (y .result) ∙ s .pre .1, goes-one sha512 (now (a .k)) (now (a .w)) (a .j) (y .result) (of (a .v)) (of (c .round .result)) (s .pre .0) (s .pre .1) (s .pre .2) (y .ensures) (c .round .ensures))
+    (length-set (now (s .args .w)) _ (y .result) ∙ s .pre .1, goes-one sha512 (s .pre .0) (s .pre .1) (s .pre .2) (y .ensures) (c .round .ensures))
 
 pub scheduled-round-spec : {M : Type 1} → statement M
 scheduled-round-spec =
