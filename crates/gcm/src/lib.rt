@@ -38,7 +38,13 @@ pub fn seal(keys: [[u8; 16]; 11], nonce: [u8; 12], aad: &[u8], text: &mut [u8]) 
 
 // Decrypts the text in place where the tag is right. Where it is not, the text stays as it was: it is hashed first, and no
 // plaintext is formed.
-pub fn open(keys: [[u8; 16]; 11], nonce: [u8; 12], aad: &[u8], tag: [u8; 16], text: &mut [u8]) -> bool
+pub fn open(
+    keys: [[u8; 16]; 11],
+    nonce: [u8; 12],
+    aad: &[u8],
+    tag: [u8; 16],
+    text: &mut [u8],
+) -> bool
     requires { ⌜ (length (now aad) < longest) × (length (now text) < longest) ⌝ }
     ensures { λ r. ⌜ Opened (blockCipher keys) nonce (now (aad .entry)) tag (now (text .entry)) (now (text .exit)) r ⌝ }
 {
