@@ -17,7 +17,7 @@ use Rattle.protocol.specs.SessionTable as table
 use Rattle.protocol.specs.Refusals.{idZero, idTaken, tableFull}
 use Rattle.protocol.specs.Calls.{derivation, Lent, onlyKeys, chainTests, materialTests, derivationTests, addTests, tests, effect}
 use Rattle.protocol.specs.Contract.{Returns}
-use Rattle.protocol.specs.Suite.{suite, kdf}
+use Rattle.protocol.specs.Suite.{kdf}
 use Rattle.protocol.proofs.BytesLaws.{skip}
 use Rattle.protocol.proofs.CallLaws.{number-lines, lines-done, left-done}
 use Rattle.protocol.proofs.Judging.{positive, positive-first, positive-rest}

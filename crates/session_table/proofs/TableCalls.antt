@@ -3,14 +3,13 @@
 use mathlib.Core.Path.{_≡_, refl, sym, ap, subst, _∙_}
 use mathlib.Core.Bool.{Bool, true, false, cond, not, _&&_, true≢false}
 use mathlib.Core.List.{List, [], _∷_, _++_}
-use mathlib.Core.Option.{Option·getD}
 use Prim.Native.Nat.{ℕ, _<_, _^_}
 use native.Mathlib.Omega.{arith}
 use borrow.Author.Tests.{eqb-true, eqb-false, leb-false}
 use lib.Dec.{eqb, leb, ltb}
-use lib.ListN.{length, getD, set, take}
+use lib.ListN.{length, getD, set}
 use Rattle.protocol.specs.Bytes.{Bytes}
-use Rattle.protocol.specs.Answer.{Answer, done, refused, isRefused, whenDone, Test, refuse_when_, firstOf, judgeAfter}
+use Rattle.protocol.specs.Answer.{Answer, done, refused, whenDone, Test, refuse_when_, firstOf, judgeAfter}
 use Rattle.protocol.specs.Connection.{Connection, encrypts, lastCounter}
 use Rattle.protocol.specs.TransformHeader.{inner, sessionIdOf, TransformHeader}
 use Rattle.protocol.specs.Compound.{walk}
