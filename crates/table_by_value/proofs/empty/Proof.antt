@@ -1,7 +1,5 @@
 -- Right because each record is a free one.
-use mathlib.Core.Path.{ap}
 use borrow.Author.Needs.{needs}
-use Rattle.session_record.specs.declared.Session.{Session}
 use Rattle.table_by_value.proofs.empty.Statement.{statement}
 use Rattle.table_by_value.proofs.empty.Tie as tie
 
