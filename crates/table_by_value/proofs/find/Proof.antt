@@ -13,7 +13,7 @@ use Rattle.table_by_value.proofs.find.Statement.{statement}
 use Rattle.table_by_value.proofs.find.Tie as tie
 
 abbrev Inv-loop : tie.InvT-loop
-Inv-loop used id t i₀ i = (i ≤ length (t .records)) × (i + first (isWanted used id) (drop i (t .records)) ≡ first (isWanted used id) (t .records))
+Inv-loop used id t i₀ i = (i + first (isWanted used id) (drop i (t .records)) ≡ first (isWanted used id) (t .records)) × (i ≤ length (t .records))
 
 abbrev μ-loop : tie.MeasureT-loop
 μ-loop used id t i₀ i = length (t .records) - i
@@ -35,7 +35,8 @@ returns : tie.Need-returns Inv-loop μ-loop
 returns c =
     let l = c .before .before .before .before in
     let a = l .before .args in
-    first-here (isWanted (a .used) (a .id)) (a .t1 .records) (l .loop .i) (l .loop .inv .1) (here (c .before .before .before)) (asked (c .before) ∙ c .if1 .taken)
+    let h = here (c .before .before .before) in
+    first-here (isWanted (a .used) (a .id)) (a .t1 .records) (l .loop .i) (l .loop .inv .0) h (asked (c .before) ∙ c .if1 .taken)
 
 loop-less : tie.Need-loop-less Inv-loop μ-loop
 loop-less c = let h = here (c .before .before .before) in omega (arith, h)
@@ -45,7 +46,7 @@ loop-again c =
     let l = c .before .before .before .before in
     let a = l .before .args in
     let h = here (c .before .before .before) in
-    (omega (arith, h), first-later (isWanted (a .used) (a .id)) (a .t1 .records) (l .loop .i) (l .loop .inv .1) h (asked (c .before) ∙ c .if1 .left))
+    (first-later (isWanted (a .used) (a .id)) (a .t1 .records) (l .loop .i) (l .loop .inv .0) h (asked (c .before) ∙ c .if1 .left), omega (arith, h))
 
 returns-2 : tie.Need-returns-2 Inv-loop μ-loop
 returns-2 c =
@@ -53,7 +54,7 @@ returns-2 c =
     let a = l .before .args in
     let t = a .t1 .records in
     let size = sym (length-map t _) ∙ l .before .good .0 .1 .1 .0 .1 .0 .1 in
-    first-none (isWanted (a .used) (a .id)) t (l .loop .i) (l .loop .inv .1) (omega (arith, size, l .loop .inv .0, c .loop-test .left))
+    first-none (isWanted (a .used) (a .id)) t (l .loop .i) (l .loop .inv .0) (omega (arith, size, l .loop .inv .1, c .loop-test .left))
 
 pub find-spec : {M : Type 1} → statement M
 find-spec =
