@@ -23,7 +23,7 @@ pub struct Table {
     pub records: [Session; RECORDS],
 }
 
-// What adding and removing give: the number of RULES 2, and the table after it.
+// What adding and removing give: document 01's number, and the table after it.
 pub struct ChangedIn {
     pub number: u32,
     pub table: Table,
@@ -107,10 +107,10 @@ pub fn add_in(from: Table, a: Adding, material: &[u8], chain: &[u8]) -> ChangedI
     let f = find(from, false, 0);
     let old = at(from, f);
     let room = f < RECORDS;
-    let r = session_record::add_record(a, there, old, room, material, chain);
+    let added = session_record::add_record(a, there, old, room, material, chain);
     ChangedIn {
-        number: r.number,
-        table: put_at(from, f, r.session),
+        number: added.number,
+        table: put_at(from, f, added.session),
     }
 }
 
@@ -120,10 +120,10 @@ pub fn remove_in(from: Table, id: u64) -> ChangedIn
 {
     let i = find(from, true, id);
     let s = at(from, i);
-    let r = session_record::remove_record(s);
+    let removed = session_record::remove_record(s);
     ChangedIn {
-        number: r.number,
-        table: put_at(from, i, r.session),
+        number: removed.number,
+        table: put_at(from, i, removed.session),
     }
 }
 
@@ -144,7 +144,7 @@ pub fn seal_in(from: Table, c: Connection, id: u64, message: &mut [u8]) -> Seale
 pub fn open_in(from: Table, c: Connection, message: &mut [u8]) -> Answer
     ensures { λ r. ⌜ Makes (opening (connectionOf c)) (messageAndTable (now (message .entry)) (tableOf (from .records))) (answerOf r) (messageAndTable (now (message .exit)) (tableOf (from .records))) ⌝ }
 {
-    let id = session_record::session_id(message);
-    let s = lookup_in(from, id);
+    let named = session_record::session_id(message);
+    let s = lookup_in(from, named);
     session_record::open_record(s, c, message)
 }

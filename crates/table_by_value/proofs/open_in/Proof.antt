@@ -1,6 +1,5 @@
 -- Right because the record of the id that the message names opens it.
 use borrow.Author.Needs.{needs}
-use Rattle.answer.specs.Reading.{answerOf}
 use Rattle.connection.specs.Reading.{connectionOf}
 use Rattle.session_record.specs.Reading.{sessionOf}
 use Rattle.session_table.specs.Reading.{tableOf}
@@ -14,7 +13,7 @@ returns c =
     let found = opened .before .before in
     let named = found .before in
     let a = named .before .before .before .args in
-    opened-says (connectionOf (a .c)) (a .message .now) (tableOf (a .from .records)) _ _ (sessionOf (found .lookup-in .result)) (answerOf (opened .open-record .result))
+    opened-says (connectionOf (a .c)) (a .message .now) (tableOf (a .from .records)) _ _ (sessionOf (found .lookup-in .result)) _
     (named .session-id .ensures) (found .lookup-in .ensures) (opened .open-record .ensures)
 
 pub open-in-spec : {M : Type 1} → statement M

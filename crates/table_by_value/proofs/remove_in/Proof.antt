@@ -8,7 +8,8 @@ returns : tie.Need-returns
 returns c =
     let found = c .before .before .before in
     let a = found .before .args in
-    removed-says (a .from .records) _ (a .id) _ _ _ (found .find .ensures) (c .before .before .at .ensures) (c .before .remove-record .ensures) (c .put-at .ensures)
+    removed-says (a .from .records) _ (a .id) _ _ _ (found .find .ensures) (c .before .before .at .ensures)
+    (c .before .remove-record .ensures) (c .put-at .ensures)
 
 pub remove-in-spec : {M : Type 1} → statement M
 remove-in-spec = tie.close (tie.spec (λ c κs. search needs) (λ c κs. search needs) (λ c κs. search needs) (λ c κs. search needs) returns)

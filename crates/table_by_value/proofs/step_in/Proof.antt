@@ -8,7 +8,8 @@ returns : tie.Need-returns
 returns c =
     let found = c .before .before .before in
     let a = found .before .args in
-    stepped-says (a .from .records) _ (a .by) (a .id) _ _ _ (found .find .ensures) (c .before .before .at .ensures) (c .before .step-record .ensures) (c .put-at .ensures)
+    stepped-says (a .from .records) _ (a .by) (a .id) _ _ _ (found .find .ensures) (c .before .before .at .ensures)
+    (c .before .step-record .ensures) (c .put-at .ensures)
 
 pub step-in-spec : {M : Type 1} → statement M
 step-in-spec = tie.close (tie.spec (λ c κs. search needs) (λ c κs. search needs) (λ c κs. search needs) (λ c κs. search needs) returns)
