@@ -23,7 +23,7 @@ pub struct Table {
     pub records: [Session; RECORDS],
 }
 
-// What adding and removing give: document 01's number, and the table after it.
+// What adding and removing give: the number of RULES 2, and the table after it.
 pub struct ChangedIn {
     pub number: u32,
     pub table: Table,
