@@ -9,13 +9,13 @@ ghost use Rattle.ccm.specs.Ccm.{encrypt, tag};
 
 fn tag_of(
     t: &[u32; 256],
-    keys: &[[u8; 16]],
+    keys: [[u8; 16]; 11],
     nonce: [u8; 11],
     aad: [u8; 32],
     text: &[u8],
 ) -> [u8; 16]
-    requires { ⌜ (1 < length (now keys)) × SubMixTable (now t) × (length (now text) < longest) ⌝ }
-    ensures { λ r. ⌜ r ≡ tag (blockCipher (now (keys .entry))) nonce aad (now (text .entry)) ⌝ }
+    requires { ⌜ SubMixTable (now t) × (length (now text) < longest) ⌝ }
+    ensures { λ r. ⌜ r ≡ tag (blockCipher keys) nonce aad (now (text .entry)) ⌝ }
 {
     let first = ctr::counter_block(
         ccm_formatting::flags_and_nonce(0x7B, nonce),
@@ -29,26 +29,26 @@ fn tag_of(
     runs::xor_16(y, s0)
 }
 
-fn xor_key_stream(t: &[u32; 256], keys: &[[u8; 16]], nonce: [u8; 11], text: &mut [u8])
-    requires { ⌜ (1 < length (now keys)) × SubMixTable (now t) × (length (now text) < longest) ⌝ }
-    ensures { λ _. ⌜ now (text .exit) ≡ encrypt (blockCipher (now (keys .entry))) nonce (now (text .entry)) ⌝ }
+fn xor_key_stream(t: &[u32; 256], keys: [[u8; 16]; 11], nonce: [u8; 11], text: &mut [u8])
+    requires { ⌜ SubMixTable (now t) × (length (now text) < longest) ⌝ }
+    ensures { λ _. ⌜ now (text .exit) ≡ encrypt (blockCipher keys) nonce (now (text .entry)) ⌝ }
 {
     ctr::apply(t, keys, ccm_formatting::flags_and_nonce(3, nonce), 1, text);
 }
 
 // Encrypts the text, or turns it back.
-pub fn apply(keys: &[[u8; 16]], nonce: [u8; 11], text: &mut [u8])
-    requires { ⌜ (1 < length (now keys)) × (length (now text) < longest) ⌝ }
-    ensures { λ _. ⌜ now (text .exit) ≡ encrypt (blockCipher (now (keys .entry))) nonce (now (text .entry)) ⌝ }
+pub fn apply(keys: [[u8; 16]; 11], nonce: [u8; 11], text: &mut [u8])
+    requires { ⌜ length (now text) < longest ⌝ }
+    ensures { λ _. ⌜ now (text .exit) ≡ encrypt (blockCipher keys) nonce (now (text .entry)) ⌝ }
 {
     let t = aes::table();
     xor_key_stream(&t, keys, nonce, text);
 }
 
 // Encrypts the text in place, and returns the tag.
-pub fn seal(keys: &[[u8; 16]], nonce: [u8; 11], aad: [u8; 32], text: &mut [u8]) -> [u8; 16]
-    requires { ⌜ (1 < length (now keys)) × (length (now text) < longest) ⌝ }
-    ensures { λ r. ⌜ Sealed (blockCipher (now (keys .entry))) nonce aad (now (text .entry)) (now (text .exit)) r ⌝ }
+pub fn seal(keys: [[u8; 16]; 11], nonce: [u8; 11], aad: [u8; 32], text: &mut [u8]) -> [u8; 16]
+    requires { ⌜ length (now text) < longest ⌝ }
+    ensures { λ r. ⌜ Sealed (blockCipher keys) nonce aad (now (text .entry)) (now (text .exit)) r ⌝ }
 {
     let t = aes::table();
     let r = tag_of(&t, keys, nonce, aad, text);
@@ -58,14 +58,14 @@ pub fn seal(keys: &[[u8; 16]], nonce: [u8; 11], aad: [u8; 32], text: &mut [u8]) 
 
 // Decrypts the text in place where the tag is right, and leaves it as it was where not.
 pub fn open(
-    keys: &[[u8; 16]],
+    keys: [[u8; 16]; 11],
     nonce: [u8; 11],
     aad: [u8; 32],
     tag: [u8; 16],
     text: &mut [u8],
 ) -> bool
-    requires { ⌜ (1 < length (now keys)) × (length (now text) < longest) ⌝ }
-    ensures { λ r. ⌜ Opened (blockCipher (now (keys .entry))) nonce aad tag (now (text .entry)) (now (text .exit)) r ⌝ }
+    requires { ⌜ length (now text) < longest ⌝ }
+    ensures { λ r. ⌜ Opened (blockCipher keys) nonce aad tag (now (text .entry)) (now (text .exit)) r ⌝ }
 {
     let t = aes::table();
     xor_key_stream(&t, keys, nonce, text);

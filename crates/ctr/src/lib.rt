@@ -20,9 +20,9 @@ pub fn counter_block(prefix: [u8; 12], n: u32) -> [u8; 16]
 }
 
 // Xors the text with the key stream whose first counter is `first`.
-pub fn apply(t: &[u32; 256], keys: &[[u8; 16]], prefix: [u8; 12], first: u32, text: &mut [u8])
-    requires { ⌜ (1 < length (now keys)) × SubMixTable (now t) × (first + length (now text) < 2 ^ 32) ⌝ }
-    ensures { λ _. ⌜ now (text .exit) ≡ ctr (blockCipher (now (keys .entry))) (counterBlocks prefix first) (now (text .entry)) ⌝ }
+pub fn apply(t: &[u32; 256], keys: [[u8; 16]; 11], prefix: [u8; 12], first: u32, text: &mut [u8])
+    requires { ⌜ SubMixTable (now t) × (first + length (now text) < 2 ^ 32) ⌝ }
+    ensures { λ _. ⌜ now (text .exit) ≡ ctr (blockCipher keys) (counterBlocks prefix first) (now (text .entry)) ⌝ }
 {
     let mut i: usize = 0;
     let mut n = first;

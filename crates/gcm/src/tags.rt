@@ -11,11 +11,11 @@ ghost use Rattle.gcm.specs.Gcm.{hashSubkey, hashInput, tag};
 ghost use Rattle.gcm.specs.Calls.{longest};
 
 // Step 1: H, ready for GHASH.
-fn hash_subkey(t: &[u32; 256], keys: &[[u8; 16]]) -> ghash::HashKey
-    requires { ⌜ (1 < length (now keys)) × SubMixTable (now t) ⌝ }
-    ensures { λ r. ⌜ Prepared r (hashSubkey (blockCipher (now (keys .entry)))) ⌝ }
+fn hash_subkey(t: &[u32; 256], keys: [[u8; 16]; 11]) -> ghash::HashKey
+    requires { ⌜ SubMixTable (now t) ⌝ }
+    ensures { λ r. ⌜ Prepared r (hashSubkey (blockCipher keys)) ⌝ }
 {
-    ghash::prepare(aes::encrypt_with(t, keys, [0u8; 16]))
+    ghash::prepare(aes::encrypt_block(t, keys, [0u8; 16]))
 }
 
 // Step 5: S. The lengths are in bits.
@@ -32,13 +32,13 @@ fn hash(k: ghash::HashKey, aad: &[u8], body: &[u8]) -> [u8; 16]
 // The tag of the ciphertext `body`.
 pub fn tag_with(
     t: &[u32; 256],
-    keys: &[[u8; 16]],
+    keys: [[u8; 16]; 11],
     nonce: [u8; 12],
     aad: &[u8],
     body: &[u8],
 ) -> [u8; 16]
-    requires { ⌜ (1 < length (now keys)) × SubMixTable (now t) × (length (now aad) < longest) × (length (now body) < longest) ⌝ }
-    ensures { λ r. ⌜ r ≡ tag (blockCipher (now (keys .entry))) nonce (now (aad .entry)) (now (body .entry)) ⌝ }
+    requires { ⌜ SubMixTable (now t) × (length (now aad) < longest) × (length (now body) < longest) ⌝ }
+    ensures { λ r. ⌜ r ≡ tag (blockCipher keys) nonce (now (aad .entry)) (now (body .entry)) ⌝ }
 {
     let k = hash_subkey(t, keys);
     let s = hash(k, aad, body);

@@ -14,7 +14,7 @@ fn ctr_sized(key: &[u8], prefix: &[u8], first: u16, text: &mut [u8])
 {
     let keys = aes::expand_key(arrays::bytes_16(key, 0));
     let t = aes::table();
-    ctr::apply(&t, &keys, arrays::bytes_12(prefix, 0), first as u32, text);
+    ctr::apply(&t, keys, arrays::bytes_12(prefix, 0), first as u32, text);
 }
 
 #[no_mangle]
@@ -36,7 +36,7 @@ fn seal_sized(key: &[u8], nonce: &[u8], aad: &[u8], text: &mut [u8], tag: &mut [
     let keys = aes::expand_key(arrays::bytes_16(key, 0));
     let n = arrays::bytes_11(nonce, 0);
     let a = arrays::bytes_32(aad, 0);
-    let t = ccm::seal(&keys, n, a, text);
+    let t = ccm::seal(keys, n, a, text);
     runs::copy(tag, 0, &t);
 }
 
@@ -74,7 +74,7 @@ fn open_sized(key: &[u8], nonce: &[u8], aad: &[u8], tag: &[u8], text: &mut [u8])
     let n = arrays::bytes_11(nonce, 0);
     let a = arrays::bytes_32(aad, 0);
     let t = arrays::bytes_16(tag, 0);
-    ccm::open(&keys, n, a, t, text)
+    ccm::open(keys, n, a, t, text)
 }
 
 // 1 for true.

@@ -14,7 +14,7 @@ fn seal_sized(key: &[u8], nonce: &[u8], aad: &[u8], text: &mut [u8], tag: &mut [
 {
     let keys = aes::expand_key(arrays::bytes_16(key, 0));
     let n = arrays::bytes_12(nonce, 0);
-    let t = gcm::seal(&keys, n, aad, text);
+    let t = gcm::seal(keys, n, aad, text);
     runs::copy(tag, 0, &t);
 }
 
@@ -51,7 +51,7 @@ fn open_sized(key: &[u8], nonce: &[u8], aad: &[u8], tag: &[u8], text: &mut [u8])
     let keys = aes::expand_key(arrays::bytes_16(key, 0));
     let n = arrays::bytes_12(nonce, 0);
     let t = arrays::bytes_16(tag, 0);
-    gcm::open(&keys, n, aad, t, text)
+    gcm::open(keys, n, aad, t, text)
 }
 
 #[no_mangle]

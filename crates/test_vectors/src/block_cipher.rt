@@ -19,7 +19,8 @@ pub fn encrypt(line: &[u8]) {
     let k = test_lines::bytes(line, test_lines::after_space(line, 0), &mut key);
     let mut block = [0u8; 16];
     test_lines::bytes(line, k.next, &mut block);
-    let out = aes::encrypt_block(aes::expand_key(key), block);
+    let t = aes::table();
+    let out = aes::encrypt_block(&t, aes::expand_key(key), block);
     test_lines::show(&out);
     test_lines::end_line();
 }

@@ -1,6 +1,6 @@
 // SP 800-38C and SP 800-38D. Each line gives: the ciphertext and the tag; 0 and the ciphertext, from opening with a tag that is
 // wrong in its last bit; 1 and the plaintext, from opening with the tag.
-ghost use Prim.Native.Nat.{_<_, _≤_};
+ghost use Prim.Native.Nat.{_≤_};
 ghost use mathlib.Core.Path.{_≡_};
 ghost use lib.Bits.{bitXor};
 ghost use lib.ListN.{length, getD, set};
@@ -43,11 +43,11 @@ pub fn ccm(line: &[u8]) {
     let m = test_lines::bytes(line, a.next, &mut message);
     let len = m.len;
     let keys = aes::expand_key(key);
-    ccm_there_and_back(&keys, nonce, aad, &mut message[..len]);
+    ccm_there_and_back(keys, nonce, aad, &mut message[..len]);
 }
 
-fn ccm_there_and_back(keys: &[[u8; 16]], nonce: [u8; 11], aad: [u8; 32], message: &mut [u8])
-    requires { ⌜ (1 < length (now keys)) × (length (now message) ≤ 256) ⌝ }
+fn ccm_there_and_back(keys: [[u8; 16]; 11], nonce: [u8; 11], aad: [u8; 32], message: &mut [u8])
+    requires { ⌜ length (now message) ≤ 256 ⌝ }
 {
     let tag = ccm::seal(keys, nonce, aad, message);
     show_sealed(message, tag);
@@ -71,15 +71,15 @@ pub fn gcm(line: &[u8]) {
     let len = m.len;
     let keys = aes::expand_key(key);
     gcm_there_and_back(
-        &keys,
+        keys,
         nonce,
         test_lines::prefix(&aad, a.len),
         &mut message[..len],
     );
 }
 
-fn gcm_there_and_back(keys: &[[u8; 16]], nonce: [u8; 12], aad: &[u8], message: &mut [u8])
-    requires { ⌜ (1 < length (now keys)) × (length (now aad) ≤ 128) × (length (now message) ≤ 256) ⌝ }
+fn gcm_there_and_back(keys: [[u8; 16]; 11], nonce: [u8; 12], aad: &[u8], message: &mut [u8])
+    requires { ⌜ (length (now aad) ≤ 128) × (length (now message) ≤ 256) ⌝ }
 {
     let tag = gcm::seal(keys, nonce, aad, message);
     show_sealed(message, tag);

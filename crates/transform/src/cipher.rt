@@ -23,9 +23,9 @@ pub fn seal(cipher: u16, key: &[u8], nonce: [u8; 16], aad: [u8; 32], text: &mut 
 {
     let keys = round_keys(key);
     if cipher == 2 {
-        return gcm::seal(&keys, arrays::bytes_12(&nonce, 0), &aad, text);
+        return gcm::seal(keys, arrays::bytes_12(&nonce, 0), &aad, text);
     }
-    ccm::seal(&keys, arrays::bytes_11(&nonce, 0), aad, text)
+    ccm::seal(keys, arrays::bytes_11(&nonce, 0), aad, text)
 }
 
 // Decrypts the text in place where the tag is right, and leaves it as it was where not.
@@ -42,9 +42,9 @@ pub fn open(
 {
     let keys = round_keys(key);
     if cipher == 2 {
-        return gcm::open(&keys, arrays::bytes_12(&nonce, 0), &aad, tag, text);
+        return gcm::open(keys, arrays::bytes_12(&nonce, 0), &aad, tag, text);
     }
-    ccm::open(&keys, arrays::bytes_11(&nonce, 0), aad, tag, text)
+    ccm::open(keys, arrays::bytes_11(&nonce, 0), aad, tag, text)
 }
 
 // Applies the key stream: encrypts a text, whatever the authenticated data, and so turns a decrypted one back.
@@ -54,8 +54,8 @@ pub fn apply(cipher: u16, key: &[u8], nonce: [u8; 16], text: &mut [u8])
 {
     let keys = round_keys(key);
     if cipher == 2 {
-        gcm::apply(&keys, arrays::bytes_12(&nonce, 0), text);
+        gcm::apply(keys, arrays::bytes_12(&nonce, 0), text);
     } else {
-        ccm::apply(&keys, arrays::bytes_11(&nonce, 0), text);
+        ccm::apply(keys, arrays::bytes_11(&nonce, 0), text);
     }
 }

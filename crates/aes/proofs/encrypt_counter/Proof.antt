@@ -9,4 +9,4 @@ returns c = named _ _ (c .before .before .load-counter .ensures) (c .before .enc
 
 pub encrypt-counter-spec : {M : Type 1} → statement M
 encrypt-counter-spec =
-    tie.close (tie.spec (λ c κs. search needs) (λ c κs. search needs) (λ c κs. search needs) returns)
+    tie.close (tie.spec (λ c. search needs) (λ c κs. search needs) (λ c κs. search needs) (λ c κs. search needs) returns)

@@ -29,9 +29,9 @@ loop-again : tie.Need-loop-again Inv-loop μ-loop
 loop-again c =
     let k = c .before .before .before in
     let a = k .before .before .args in (
-      over-turn (λ y x. blockCipher (now (a .keys)) (xor y x)) (a .y) (now (a .s)) (k .loop .at) 16 (k .loop .z) _
+      over-turn (λ y x. blockCipher (a .keys) (xor y x)) (a .y) (now (a .s)) (k .loop .at) 16 (k .loop .z) _
           (omega arith, omega arith) (omega arith) (omega arith) (k .loop .inv .0)
-          (c .next .ensures ∙ ap (λ (x : List ℕ). blockCipher (now (a .keys)) (xor (k .loop .z) x)) (c .before .block-at .ensures)),
+          (c .next .ensures ∙ ap (λ (x : List ℕ). blockCipher (a .keys) (xor (k .loop .z) x)) (c .before .block-at .ensures)),
       omega arith,
       omega arith,
     )
@@ -42,17 +42,17 @@ returns c =
     let a = k .before .before .args in
     let m : ℕ = length (now (a .s)) - k .loop .at in
     let e : k .loop .at + m ≡ length (now (a .s)) = omega arith in
-    over-turn (λ y x. blockCipher (now (a .keys)) (xor y x)) (a .y) (now (a .s)) (k .loop .at) m (k .loop .z) _
+    over-turn (λ y x. blockCipher (a .keys) (xor y x)) (a .y) (now (a .s)) (k .loop .at) m (k .loop .z) _
     (omega arith, omega arith) (omega arith) (omega arith) (k .loop .inv .0)
-    (c .next2 .ensures ∙ ap (λ (x : List ℕ). blockCipher (now (a .keys)) (xor (k .loop .z) x)) (c .before .block-at2 .ensures))
-    ∙ ap (λ (n : ℕ). cbcMac (blockCipher (now (a .keys))) (a .y) (now (a .s)) (blockCount n)) e
+    (c .next2 .ensures ∙ ap (λ (x : List ℕ). blockCipher (a .keys) (xor (k .loop .z) x)) (c .before .block-at2 .ensures))
+    ∙ ap (λ (n : ℕ). cbcMac (blockCipher (a .keys)) (a .y) (now (a .s)) (blockCount n)) e
 
 returns-2 : tie.Need-returns-2 Inv-loop μ-loop
 returns-2 c =
     let k = c .before .before in
     let a = k .before .before .args in
     let e : k .loop .at ≡ length (now (a .s)) = omega arith in
-    k .loop .inv .0 ∙ ap (λ (n : ℕ). cbcMac (blockCipher (now (a .keys))) (a .y) (now (a .s)) (blockCount n)) e
+    k .loop .inv .0 ∙ ap (λ (n : ℕ). cbcMac (blockCipher (a .keys)) (a .y) (now (a .s)) (blockCount n)) e
 
 pub chain-spec : {M : Type 1} → statement M
 chain-spec =

@@ -13,7 +13,7 @@ returns c =
     let u = c .before .before .tag-of in
     let m = c .before .before .before .before .before .before .before .xor-key-stream in
     let a = c .before .before .before .before .before .before .before .before .before .before .before .before .args in
-    opened-right (blockCipher (now (a .keys))) (a .nonce) (a .aad) (a .tag) (now (a .text))
+    opened-right (blockCipher (a .keys)) (a .nonce) (a .aad) (a .tag) (now (a .text))
     (m .last .1 .1 .1 .0) (u .result) (m .ensures) (u .ensures) (sym (c .before .same-16 .ensures) ∙ c .if1 .taken)
 
 returns-2 : tie.Need-returns-2
@@ -22,7 +22,7 @@ returns-2 c =
     let u = i .before .before .tag-of in
     let m = i .before .before .before .before .before .before .before .xor-key-stream in
     let a = i .before .before .before .before .before .before .before .before .before .before .before .before .args in
-    opened-wrong (blockCipher (now (a .keys))) (a .nonce) (a .aad) (a .tag) (now (a .text))
+    opened-wrong (blockCipher (a .keys)) (a .nonce) (a .aad) (a .tag) (now (a .text))
     (m .last .1 .1 .1 .0) (u .result) (m .ensures) (u .ensures) _ (sym (i .before .same-16 .ensures) ∙ i .if1 .left)
     (c .before .before .xor-key-stream2 .ensures)
 

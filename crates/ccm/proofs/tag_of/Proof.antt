@@ -25,7 +25,7 @@ returns c =
     let bf = c .before .before .before .before .before .before .before .before .before .before .flags-and-nonce in
     let st = c .before .before .before .before .before .before .before .before .before .before .before .before in
     let a = st .args in
-    let keys = now (a .keys) in
+    let keys = a .keys in
     tag-right (blockCipher keys) (a .nonce) (a .aad) (now (a .text)) (st .good .1 .1 .0 .1 .0 .1) (st .good .1 .1 .1 .0 .1 .0 .1)
     (length-cipher (length keys - 1) keys)
     (b .result) (w .result) (y0 .result) (y1 .result) (y .result) (s .result) _

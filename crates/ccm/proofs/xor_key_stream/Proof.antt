@@ -17,7 +17,7 @@ returns c =
     let p = c .before .before .before .before in
     let a = p .before .before .args in
     c .before .before .apply .ensures
-    ∙ ap (λ (x : List ℕ). ctr (blockCipher (now (a .keys))) (counterBlocks x 1) (now (a .text))) (p .flags-and-nonce .ensures)
+    ∙ ap (λ (x : List ℕ). ctr (blockCipher (a .keys)) (counterBlocks x 1) (now (a .text))) (p .flags-and-nonce .ensures)
 
 pub xor-key-stream-spec : {M : Type 1} → statement M
 xor-key-stream-spec =

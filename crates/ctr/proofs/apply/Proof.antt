@@ -25,7 +25,7 @@ loop-holds : tie.Need-loop-holds Inv-loop μ-loop
 loop-holds c =
     let a = c .before .args in
     let text = now (a .text) in
-    let E = blockCipher (now (a .keys)) in
+    let E = blockCipher (a .keys) in
     (paste-zero text 0 (ctr E (counterBlocks (a .prefix) (a .first)) text), omega arith, omega arith, omega arith, refl)
 
 loop-again : tie.Need-loop-again Inv-loop μ-loop
@@ -34,7 +34,7 @@ loop-again c =
     let g = c .before .before .before .encrypt-counter in
     let k = c .before .before .before .before .before .before in
     let a = k .before .before .args in (
-      counter-turn (blockCipher (now (a .keys))) (a .prefix) (a .first) (k .loop .n) (now (a .text)) (k .loop .i) 16 (g .result) (k .loop .text) _
+      counter-turn (blockCipher (a .keys)) (a .prefix) (a .first) (k .loop .n) (now (a .text)) (k .loop .i) 16 (g .result) (k .loop .text) _
           (omega arith) (omega arith) (omega arith) (omega arith) (g .ensures) (k .loop .inv .0) (x .ensures),
       omega arith,
       omega arith,
@@ -49,15 +49,15 @@ returns c =
     let k = c .before .before .before .before .before .before .before in
     let a = k .before .before .args in
     let m : ℕ = length (k .loop .text) - k .loop .i in
-    ctr-end (blockCipher (now (a .keys))) (counterBlocks (a .prefix) (a .first)) (now (a .text)) (k .loop .i + m) _ (omega arith)
-    (counter-turn (blockCipher (now (a .keys))) (a .prefix) (a .first) (k .loop .n) (now (a .text)) (k .loop .i) m (g .result) (k .loop .text) _
+    ctr-end (blockCipher (a .keys)) (counterBlocks (a .prefix) (a .first)) (now (a .text)) (k .loop .i + m) _ (omega arith)
+    (counter-turn (blockCipher (a .keys)) (a .prefix) (a .first) (k .loop .n) (now (a .text)) (k .loop .i) m (g .result) (k .loop .text) _
     (omega arith) (omega arith) (omega arith) (omega arith) (g .ensures) (k .loop .inv .0) (x .ensures))
 
 returns-2 : tie.Need-returns-2 Inv-loop μ-loop
 returns-2 c =
     let k = c .before .before in
     let a = k .before .before .args in
-    ctr-end (blockCipher (now (a .keys))) (counterBlocks (a .prefix) (a .first)) (now (a .text)) (k .loop .i) (k .loop .text) (omega arith) (k .loop .inv .0)
+    ctr-end (blockCipher (a .keys)) (counterBlocks (a .prefix) (a .first)) (now (a .text)) (k .loop .i) (k .loop .text) (omega arith) (k .loop .inv .0)
 
 pub apply-spec : {M : Type 1} → statement M
 apply-spec =

@@ -13,14 +13,14 @@ returns c =
     let i = e .before .before .before in
     let t = i .before .before in
     let args = t .before .before .before .before .before .before .args in
-    opened-right (blockCipher (now (args .keys))) (args .nonce) (now (args .aad)) (args .tag) (now (args .text)) (t .tag-with .result)
+    opened-right (blockCipher (args .keys)) (args .nonce) (now (args .aad)) (args .tag) (now (args .text)) (t .tag-with .result)
     (t .tag-with .ensures) _ (sym (i .before .same-16 .ensures) ∙ i .if1 .taken) (e .encrypt-with .ensures)
 
 returns-2 : tie.Need-returns-2
 returns-2 c =
     let t = c .before .before in
     let args = t .before .before .before .before .before .before .args in
-    opened-wrong (blockCipher (now (args .keys))) (args .nonce) (now (args .aad)) (args .tag) (now (args .text)) (t .tag-with .result)
+    opened-wrong (blockCipher (args .keys)) (args .nonce) (now (args .aad)) (args .tag) (now (args .text)) (t .tag-with .result)
     (t .tag-with .ensures) (sym (c .before .same-16 .ensures) ∙ c .if1 .left)
 
 pub open-spec : {M : Type 1} → statement M

@@ -10,7 +10,7 @@ returns : tie.Need-returns
 returns c =
     let e = c .before .before .before .before .before in
     let args = e .before .before .before .before .before .before .args in
-    sealed (blockCipher (now (args .keys))) (args .nonce) (now (args .aad)) (now (args .text)) _ (c .tag-with .result)
+    sealed (blockCipher (args .keys)) (args .nonce) (now (args .aad)) (now (args .text)) _ (c .tag-with .result)
     (e .encrypt-with .ensures) (c .tag-with .ensures)
 
 pub seal-spec : {M : Type 1} → statement M

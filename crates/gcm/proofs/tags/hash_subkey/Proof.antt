@@ -7,7 +7,7 @@ use Rattle.gcm.proofs.tags.hash_subkey.Statement.{statement}
 use Rattle.gcm.proofs.tags.hash_subkey.Tie as tie
 
 returns : tie.Need-returns
-returns c = subst (Prepared (c .prepare .result)) (ap bigEndian (c .before .encrypt-with .ensures)) (c .prepare .ensures)
+returns c = subst (Prepared (c .prepare .result)) (ap bigEndian (c .before .encrypt-block .ensures)) (c .prepare .ensures)
 
 pub hash-subkey-spec : {M : Type 1} → statement M
 hash-subkey-spec =

@@ -7,7 +7,7 @@ use Rattle.test_primitives.proofs.ccm_calls.ctr_sized.Tie as tie
 
 returns : tie.Need-returns
 returns c =
-    let x = c .before .before .before .before .before .before .before .before in
+    let x = c .before .before .before .before .before .before .before in
     let s = x .before .before .before .before .before in
     let k = expanded (s .args .key .now) _ _ (s .pre .0) (x .before .bytes-16 .ensures) (x .expand-key .ensures) in
     let p = whole 12 (s .args .prefix .now) _ (s .pre .1) (c .before .before .before .before .bytes-12 .ensures) in
@@ -20,7 +20,6 @@ ctr-sized-spec =
     (λ c κs. search needs)
     (λ c κs. search needs)
     (λ c κs. search needs)
-    (λ c. search needs)
     (λ c κs. search needs)
     (λ c κs. search needs)
     (λ c. search needs)

@@ -16,7 +16,7 @@ ccm-there-and-back-requires : tie.Need-ccm-there-and-back-requires
 ccm-there-and-back-requires c κs =
     let m = c .before .before .before .before .bytes4 in
     let l = length-take-le (m .result .len) (m .last .1 .1 .0) (omega (arith, m .kept, m .ensures)) in
-    (search needs, omega (arith, l, m .kept, m .ensures))
+    omega (arith, l, m .kept, m .ensures)
 
 pub ccm-spec : {M : Type 1} → statement M
 ccm-spec =

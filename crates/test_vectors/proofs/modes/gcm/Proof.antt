@@ -17,7 +17,7 @@ gcm-there-and-back-requires c κs =
     let k = c .before .before .before .before .before .before in
     let m = k .bytes4 in
     let l = length-take-le (m .result .len) (m .last .1 .1 .0) (omega (arith, m .kept, m .ensures)) in
-    (search needs, omega (arith, c .before .prefix .ensures, k .before .before .before .bytes3 .kept), omega (arith, l, m .kept, m .ensures))
+    (omega (arith, c .before .prefix .ensures, k .before .before .before .bytes3 .kept), omega (arith, l, m .kept, m .ensures))
 
 pub gcm-spec : {M : Type 1} → statement M
 gcm-spec =

@@ -6,19 +6,19 @@ use Rattle.transform.proofs.cipher.apply.Tie as tie
 
 returns : tie.Need-returns
 returns c = λ aad.
-    let a = c .before .before .before .before .before .before .before .before .before .before .before .args in
-    let keys = c .before .before .before .before .before .before .before .before .round-keys in
-    let two = c .before .before .before .before .before .before .before .if1 in
-    let nonce = c .before .before .before .before .bytes-12 in
-    gcm-applied (a .cipher) (a .key .now) (a .t3) aad _ _ (keys .ensures) (two .taken) (nonce .ensures) _ _ (c .before .before .apply .ensures)
+    let nonce = c .before .before .before .before in
+    let two = nonce .before .before in
+    let a = two .before .before .before .before .args in
+    gcm-applied (a .cipher) (a .key .now) (a .t3) aad _ _ (two .before .round-keys .ensures) (two .if1 .taken) (nonce .bytes-12 .ensures) _ _
+    (c .before .before .apply .ensures)
 
 returns-2 : tie.Need-returns-2
 returns-2 c = λ aad.
-    let a = c .before .before .before .before .before .before .before .before .before .before .before .args in
-    let keys = c .before .before .before .before .before .before .before .before .round-keys in
-    let two = c .before .before .before .before .before .before .before .if1 in
-    let nonce = c .before .before .before .before .bytes-11 in
-    ccm-applied (a .cipher) (a .key .now) (a .t3) aad _ _ (keys .ensures) (two .left) (nonce .ensures) _ _ (c .before .before .apply2 .ensures)
+    let nonce = c .before .before .before .before in
+    let two = nonce .before .before in
+    let a = two .before .before .before .before .args in
+    ccm-applied (a .cipher) (a .key .now) (a .t3) aad _ _ (two .before .round-keys .ensures) (two .if1 .left) (nonce .bytes-11 .ensures) _ _
+    (c .before .before .apply2 .ensures)
 
 pub apply-spec : {M : Type 1} → statement M
 apply-spec =
@@ -26,10 +26,8 @@ apply-spec =
     (tie.spec
     (λ c κs. search needs)
     (λ c. search needs)
-    (λ c. search needs)
     (λ c κs. search needs)
     (λ c κs. search needs)
-    (λ c. search needs)
     (λ c. search needs)
     (λ c κs. search needs)
     (λ c κs. search needs)

@@ -6,20 +6,18 @@ use Rattle.transform.proofs.cipher.open.Tie as tie
 
 returns : tie.Need-returns
 returns c =
-    let c5 = c .before .before .before .before .before in
-    let c10 = c5 .before .before .before .before .before in
-    let a = c10 .before .before .args in
-    gcm-opened (a .cipher) (a .key .now) (a .t3) (a .t4) _ _ (c5 .before .before .before .before .round-keys .ensures)
-    (c5 .before .before .before .if1 .taken) (c5 .bytes-12 .ensures) _ _ _ _
+    let nonce = c .before .before .before .before .before in
+    let two = nonce .before .before in
+    let a = two .before .before .before .before .args in
+    gcm-opened (a .cipher) (a .key .now) (a .t3) (a .t4) _ _ (two .before .round-keys .ensures) (two .if1 .taken) (nonce .bytes-12 .ensures) _ _ _ _
     (c .before .before .«open» .ensures)
 
 returns-2 : tie.Need-returns-2
 returns-2 c =
-    let c5 = c .before .before .before .before .before in
-    let c10 = c5 .before .before .before .before .before in
-    let a = c10 .before .args in
-    ccm-opened (a .cipher) (a .key .now) (a .t3) (a .t4) _ _ (c5 .before .before .before .round-keys .ensures) (c5 .before .before .if1 .left)
-    (c .before .before .before .before .bytes-11 .ensures) _ _ _ _
+    let nonce = c .before .before .before .before in
+    let two = nonce .before .before in
+    let a = two .before .before .before .before .args in
+    ccm-opened (a .cipher) (a .key .now) (a .t3) (a .t4) _ _ (two .before .round-keys .ensures) (two .if1 .left) (nonce .bytes-11 .ensures) _ _ _ _
     (c .before .before .open2 .ensures)
 
 pub open-spec : {M : Type 1} → statement M
@@ -28,13 +26,11 @@ open-spec =
     (tie.spec
     (λ c κs. search needs)
     (λ c. search needs)
-    (λ c. search needs)
     (λ c κs. search needs)
     (λ c. search needs)
     (λ c κs. search needs)
     (λ c. search needs)
     returns
-    (λ c. search needs)
     (λ c. search needs)
     (λ c κs. search needs)
     (λ c κs. search needs)
