@@ -37,17 +37,17 @@ pub fn yes_or_no(what: &[u8], yes: bool) {
 }
 
 // A fold: the number, and 1 for folded, 0 for not folded.
-fn fold(end: &[u8], f: Folding) {
+fn fold(end: &[u8], f: FoldAnswer) {
     say(end);
     test_lines::show_decimal(preauth::number(f) as u64);
-    if preauth::folded_after(f, 0) == 1 {
+    if preauth::folded_to(f, 0) == 1 {
         say(b" folded");
     } else {
         say(b" not folded");
     }
 }
 
-pub fn folds(what: &[u8], client: Folding, server: Folding) {
+pub fn folds(what: &[u8], client: FoldAnswer, server: FoldAnswer) {
     begin(what);
     fold(b"client ", client);
     fold(b", server ", server);

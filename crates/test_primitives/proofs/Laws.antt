@@ -64,7 +64,7 @@ writes-value {v} {out} n value l e w =
 pub three : (a b c : Bool) → (a && b && c) ≡ true → (a ≡ true) × (b ≡ true) × (c ≡ true)
 three a b c e =
     let p = and-true (a && b) c e in
-    let q = both a b (p .0) in
+    let q = and-true a b (p .0) in
     (q .0, q .1, p .1)
 
 five : (a b c d f : Bool) → (a && b && c && d && f) ≡ true → (a ≡ true) × (b ≡ true) × (c ≡ true) × (d ≡ true) × (f ≡ true)
