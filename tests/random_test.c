@@ -28,7 +28,7 @@ int main(int argc, char **argv)
         begin_case(i);
         struct call c = generate();
         uint32_t r = compare(&c, &heap);
-        if (r >= NUMBERS) fail("a number that document 01 does not have", r);
+        if (r >= NUMBERS) fail("a number that the rules does not have", r);
         seen[c.function][r]++;
     }
     for (size_t i = 0; i < COUNT(answers) && cases >= ENOUGH; i++)

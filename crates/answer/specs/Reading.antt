@@ -1,4 +1,4 @@
--- The enum of the code, read as the answers of document 01.
+-- The enum of the code, read as the answers of the rules.
 -- Assumes nothing.
 use Rattle.protocol.specs.Answer as rules
 use Rattle.answer.specs.declared.Answer.{Answer}

@@ -1,10 +1,10 @@
-// What the calls answer with (document 01, "Numbers a caller can get back").
+// What the calls answer with (RULES 2).
 ghost use mathlib.Core.Path.{_≡_};
 ghost use mathlib.Core.Bool.{cond};
 ghost use Rattle.protocol.specs.Answer.{answerNumber, isRefused, carried};
 ghost use Rattle.answer.specs.Reading.{answerOf};
 
-// Done, with the number of inner headers visited or with what else the call has to say; or refused, with document 01's number.
+// Done, with the number of inner headers visited or with what else the call has to say; or refused, with the number of RULES 2.
 pub enum Answer {
     Done(u64),
     Refused(u32),

@@ -4,7 +4,7 @@ ghost use Prim.Native.Nat.{_<_};
 ghost use lib.ListN.{length};
 ghost use Rattle.aes.specs.Tables.{SubMixTable};
 ghost use Rattle.aes.specs.BlockCipher.{blockCipher};
-ghost use Rattle.ccm.specs.Calls.{longest, Sealed, Opened};
+ghost use Rattle.ccm.specs.Contracts.{longest, Sealed, Opened};
 ghost use Rattle.ccm.specs.Ccm.{encrypt, tag};
 
 fn tag_of(

@@ -1,12 +1,12 @@
 -- The walk, a header at a time: what each way out of the loop, and each turn, is by the definition.
 -- Assumes nothing.
 use mathlib.Core.Path.{_≡_, refl, ap, _∙_}
-use mathlib.Core.Bool.{Bool, true, false, _||_}
 use Prim.Native.Nat.{ℕ, suc, _+_, _-_, _*_, _≤_}
 use native.Mathlib.Omega.{arith}
 use borrow.Author.Tests.{eq-eqb, ne-eqb, ltb-false}
 use lib.Dec.{ltb}
 use lib.ListN.{length}
+use Rattle.octets.proofs.BoolLaws.{or-false}
 use Rattle.protocol.specs.Bytes.{Bytes}
 use Rattle.protocol.specs.Answer.{done, refused, firstOf, judge}
 use Rattle.protocol.specs.InnerHeader.{nextCommand, Envelope}
@@ -19,10 +19,6 @@ pub record Walking (m : Bytes) (e : Envelope) (p n : ℕ) : Type 0 where
   pub counted : 64 * n ≤ p + 64
   pub begun : 1 ≤ n
   pub so-far : walk m e ≡ walkOn (suc (length m) - n) m e p n
-
-neither : (a b : Bool) → (a || b) ≡ false → (a ≡ false) × (b ≡ false)
-neither true b e = absurd (let z : _≡_ {A = ℕ} 0 1 = cc in omega arith)
-neither false b e = (refl, e)
 
 fuel-start : (l : ℕ) → l ≡ suc l - 1
 fuel-start l = omega arith
@@ -73,7 +69,7 @@ module _ (m : Bytes) (e : Envelope) (p n : ℕ) (w : Walking m e p n) (d : ℕ) 
     pub goes-on : k ≡ 0 → Walking m e (p + d) (n + 1)
     goes-on z =
         let none : NoneApplies (nextHeaderTests m e p d) = passes (nextHeaderTests m e p d) k refl says z in
-        let within = neither (ltb d 64) (ltb (length m) (p + d + 64)) (none .0) in
+        let within = or-false (ltb d 64) (ltb (length m) (p + d + 64)) (none .0) in
         let far : 64 ≤ d = ltb-false d 64 (within .0) in
         let near : p + d + 64 ≤ length m = ltb-false (length m) (p + d + 64) (within .1) in
         let a = w .inside in

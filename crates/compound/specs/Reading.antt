@@ -1,4 +1,4 @@
--- The struct of the code, read as document 01's.
+-- The struct of the code, read as the rules'.
 -- Assumes nothing.
 use Rattle.protocol.specs.InnerHeader as rules
 use Rattle.compound.specs.declared.Envelope.{Envelope}

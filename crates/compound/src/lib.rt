@@ -1,4 +1,4 @@
-// The walk over the headers of a compounded message (document 01, "The walk over inner headers").
+// The walk over the headers of a compounded message (RULES 9).
 mod header;
 mod rules;
 

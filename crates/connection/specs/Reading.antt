@@ -1,6 +1,6 @@
--- The structs of the code, read as the records of document 01.
+-- The structs of the code, read as the records of the rules.
 -- Assumes nothing.
-use mathlib.Core.Bool.{Bool, false, not}
+use mathlib.Core.Bool.{false, not}
 use Prim.Native.Nat.{ℕ}
 use lib.Dec.{eqb}
 use Rattle.protocol.specs.Connection as rules

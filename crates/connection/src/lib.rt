@@ -1,4 +1,4 @@
-// What a connection agreed on (document 01, "What the library covers" and "Ciphers"). Every function above takes it by value.
+// What a connection agreed on (RULES 1 and 6). Every function above takes it by value.
 ghost use mathlib.Core.Path.{_≡_};
 ghost use Rattle.protocol.specs.Connection.{knownDialect, encrypts, cipherUsed, longestMessage, lastCounter};
 ghost use Rattle.connection.specs.Reading.{connectionOf, underKey};

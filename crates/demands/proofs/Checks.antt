@@ -25,7 +25,7 @@ use Rattle.protocol.proofs.Judging.{line}
 use Rattle.demands.specs.Lines.{None, no-line}
 use Rattle.demands.specs.Walk.{Walked}
 use Rattle.demands.specs.Opening.{Encrypts, HeaderChecks, Carries, OpensUnderKey, OpensWithRecord}
-use Rattle.demands.proofs.BoolLaws.{and-true, both, or-true, or-left, or-right, or-false, neither}
+use Rattle.octets.proofs.BoolLaws.{and-true, both, or-true, or-left, or-right, or-false, neither}
 use Rattle.demands.proofs.LineLaws.{none-applies, past-line, past-part}
 use Rattle.demands.proofs.Carrying.{text-tag, text-ciphertext, plaintext-of}
 

@@ -1,4 +1,3 @@
-pub mod BoolLaws
 pub mod LineLaws
 pub mod WalkLaws
 pub mod Answering

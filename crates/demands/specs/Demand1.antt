@@ -1,5 +1,5 @@
 -- Demand 1: every call has an answer; its number is that of the first line of its list that applies; a refusal changes nothing.
--- Document 01, "Numbers a caller can get back". Calls are total functions of any bytes, any table and any lengths: there are no premises.
+-- RULES 2. Calls are total functions of any bytes, any table and any lengths: there are no premises.
 -- Over any primitives; the theorem is about the suite.
 -- Assumes nothing.
 use mathlib.Core.Path.{_≡_}

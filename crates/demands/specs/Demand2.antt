@@ -1,6 +1,6 @@
 -- Demand 2: keys, chain values and sealed bytes are those of the papers, and a message opens exactly if every listed check holds.
 -- Of the suite: HMAC, SHA-2, AES, CCM and GCM are the definitions of FIPS 198-1, 180-4, 197, SP 800-38C and 800-38D in their own crates.
--- The tables of labels, the header's fields and their order are cited from protocol, where document 01's sentences stand beside them.
+-- The tables of labels, the header's fields and their order are cited from protocol, where the rules' sentences stand beside them.
 -- Assumes nothing.
 use mathlib.Core.Path.{_≡_}
 use mathlib.Core.Logic.{_≢_, _↔_}

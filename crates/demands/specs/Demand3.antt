@@ -1,4 +1,4 @@
--- Demand 3, whole: lists of calls at each end. Document 01, "Lists of calls in demand 3".
+-- Demand 3, whole: lists of calls at each end. RULES 12.
 -- Over any primitives; the theorem is about the suite.
 -- Assumes nothing.
 use mathlib.Core.Path.{_≡_}

@@ -1,4 +1,4 @@
--- Demand 2, opening: every listed check, one field for one check, with the number that document 01 gives where it fails.
+-- Demand 2, opening: every listed check, one field for one check, with the number that the rules gives where it fails.
 -- Of the suite: what `encrypt` and `tag` are is said in Demand2.
 -- Assumes nothing.
 use mathlib.Core.Path.{_≡_}

@@ -1,4 +1,4 @@
--- A list of calls over a table: document 01, "Lists of calls in demand 3".
+-- A list of calls over a table: RULES 12.
 -- Over any primitives.
 -- Assumes nothing.
 use mathlib.Core.List.{List, [], _∷_}

@@ -1,4 +1,4 @@
--- "Under one given key, 7 and 8 do not arise" (document 01, "Numbers a caller can get back"): such a call looks neither at the role nor at
+-- "Under one given key, 7 and 8 do not arise" (RULES 2): such a call looks neither at the role nor at
 -- the constraint of its connection, and it has no record.
 -- Of the suite.
 -- Assumes nothing.

@@ -7,7 +7,7 @@ ghost use lib.ListN.{length};
 ghost use Rattle.aes.specs.Tables.{SubMixTable};
 ghost use Rattle.aes.specs.BlockCipher.{blockCipher};
 ghost use Rattle.gcm.specs.Gcm.{encrypt};
-ghost use Rattle.gcm.specs.Calls.{Sealed, Opened, longest};
+ghost use Rattle.gcm.specs.Contracts.{Sealed, Opened, longest};
 
 // 7.1, step 3, with the cipher's table lent.
 fn encrypt_with(t: &[u32; 256], keys: [[u8; 16]; 11], nonce: [u8; 12], text: &mut [u8])

@@ -8,7 +8,7 @@ ghost use Rattle.aes.specs.BlockCipher.{blockCipher};
 ghost use Rattle.ghash.specs.Ghash.{ghash};
 ghost use Rattle.ghash.specs.Elements.{Prepared};
 ghost use Rattle.gcm.specs.Gcm.{hashSubkey, hashInput, tag};
-ghost use Rattle.gcm.specs.Calls.{longest};
+ghost use Rattle.gcm.specs.Contracts.{longest};
 
 // Step 1: H, ready for GHASH.
 fn hash_subkey(t: &[u32; 256], keys: [[u8; 16]; 11]) -> ghash::HashKey

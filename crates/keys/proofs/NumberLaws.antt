@@ -1,31 +1,26 @@
 -- What derivation answers, and what the place holds then.
 -- Assumes nothing.
 use mathlib.Core.Path.{_≡_, refl, sym, _∙_}
-use mathlib.Core.Bool.{Bool, true, false, _&&_}
 use Prim.Native.Nat.{ℕ}
-use native.Mathlib.Omega.{arith}
 use borrow.Author.Tests.{eqb-true, not-false}
 use lib.Dec.{eqb}
 use lib.ListN.{length}
+use Rattle.octets.proofs.BoolLaws.{and-true}
 use Rattle.protocol.specs.Bytes.{Bytes}
 use Rattle.protocol.specs.Answer.{firstOf}
 use Rattle.protocol.specs.Keys.{sessionKey, keysInOrder, derivedKeys}
 use Rattle.protocol.specs.Calls.{derivation, onlyKeys, derivationTests, tests, effect}
 use Rattle.protocol.specs.Contract.{Returns}
-use Rattle.protocol.specs.Suite.{suite, kdf}
+use Rattle.protocol.specs.Suite.{kdf}
 use Rattle.protocol.proofs.CallLaws.{lines-return, lines-return-done}
 use Rattle.protocol.proofs.Judging.{passes, line}
-
-second : (a b : Bool) → (a && b) ≡ true → b ≡ true
-second true b e = e
-second false b e = absurd (let z : _≡_ {A = ℕ} 0 1 = cc in omega arith)
 
 module _ (dialect : ℕ) (chain material place : Bytes) (n : ℕ) (says : n ≡ firstOf (derivationTests dialect chain material place)) where
   pub place-fits : n ≡ 0 → length place ≡ 64
   place-fits z =
       let none = passes (derivationTests dialect chain material place) n refl says z in
       let fits = not-false _ (line (derivationTests dialect chain material place) none 40) in
-      eqb-true (length place) 64 (second (eqb (length chain) 64) (eqb (length place) 64) fits)
+      eqb-true (length place) 64 (and-true (eqb (length chain) 64) (eqb (length place) 64) fits .1)
 
   pub left-alone : (n ≡ 0 → ⊥) → Returns (derivation dialect chain material) (onlyKeys place) n (onlyKeys place)
   unfolding tests

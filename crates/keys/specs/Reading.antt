@@ -1,4 +1,4 @@
--- The struct of the code, read as document 01's four keys.
+-- The struct of the code, read as the four keys of the rules.
 -- Assumes nothing.
 use Rattle.protocol.specs.Keys as rules
 use Rattle.keys.specs.declared.labels.Keys.{Keys}

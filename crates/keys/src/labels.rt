@@ -1,4 +1,4 @@
-// The table of document 01, "Keys": a label and a context for each key. Both carry their own final zero byte.
+// The table of RULES 7: a label and a context for each key. Both carry their own final zero byte.
 use kdf::derive_16;
 ghost use mathlib.Core.Path.{_≡_};
 ghost use Rattle.protocol.specs.Keys.{keys311, keys300, derivedKeys};

@@ -1,4 +1,4 @@
-// The four keys of a session, out of its key material and its chain value (document 01, "Keys"; MS-SMB2 3.1.4.2).
+// The four keys of a session, out of its key material and its chain value (RULES 7; MS-SMB2 3.1.4.2).
 mod labels;
 mod place;
 

@@ -1,3 +1,4 @@
+pub mod BoolLaws
 pub mod BitXor
 pub mod XorWith
 pub mod Paste

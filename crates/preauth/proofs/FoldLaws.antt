@@ -1,13 +1,14 @@
 -- Folding, by the way out that the code takes.
 -- Assumes nothing.
 use mathlib.Core.Path.{_≡_, refl, sym, ap, _∙_}
-use mathlib.Core.Bool.{Bool, true, false, cond, _&&_}
+use mathlib.Core.Bool.{Bool, true, false, cond}
 use mathlib.Core.List.{[], _∷_, _++_}
 use Prim.Native.Nat.{ℕ, _≤_}
 use native.Mathlib.Omega.{arith}
 use borrow.Author.Tests.{eq-eqb, ne-eqb, leb-true}
 use lib.Dec.{leb}
 use lib.ListN.{length}
+use Rattle.octets.proofs.BoolLaws.{and-true}
 use Rattle.protocol.specs.Bytes.{Bytes}
 use Rattle.protocol.specs.Answer.{done, refused, firstOf}
 use Rattle.protocol.specs.Connection.{longestMessage}
@@ -54,12 +55,8 @@ module _ (kind : FoldKind) (v m : Bytes) where
           let says : done 1 ≡ answer suite call lent = ap (λ (x : Bool). done (cond x 1 0)) (sym b) ∙ passed in
           makes-done call lent (done 1) says refl (onlyChain after) (rw (b, e))
 
-both : (a b : Bool) → (a && b) ≡ true → (a ≡ true) × (b ≡ true)
-both true b e = (refl, e)
-both false b e = absurd (let z : _≡_ {A = ℕ} 0 1 = cc in omega arith)
-
 -- what 23 admits
 pub limits : (m : Bytes) → admitted m ≡ true → (64 ≤ length m) × (length m ≤ longestMessage)
 limits m a =
-    let b = both (leb 64 (length m)) (leb (length m) longestMessage) a in
+    let b = and-true (leb 64 (length m)) (leb (length m) longestMessage) a in
     (leb-true 64 (length m) (b .0), leb-true (length m) longestMessage (b .1))

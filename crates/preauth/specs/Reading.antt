@@ -1,4 +1,4 @@
--- The enum of the code, read as the answers of document 01, "Chain".
+-- The enum of the code, read as the answers of RULES 8.
 -- Assumes nothing.
 use Rattle.protocol.specs.Answer.{Answer, done, refused}
 use Rattle.preauth.specs.declared.FoldAnswer.{FoldAnswer}

@@ -1,4 +1,4 @@
-// The preauthentication integrity hash: messages folded into a chain value (document 01, "Chain").
+// The preauthentication integrity hash: messages folded into a chain value (RULES 8).
 use little_endian::u32_at;
 use runs::copy;
 use sha512::Sha512;

@@ -1,4 +1,4 @@
--- Figures of document 01 beside the P lines, which rule out the errors that it expects.
+-- Figures of the rules beside the P lines, which rule out the errors that it expects.
 -- Assumes nothing.
 use mathlib.Core.Path.{_≡_, refl}
 use mathlib.Core.Bool.{true, false}

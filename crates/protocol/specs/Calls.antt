@@ -1,5 +1,5 @@
 -- Every call as one value: what it is given, what it tests, what it changes. Its answer and what it leaves are then said once, for all calls.
--- Document 01, "Numbers a caller can get back" and "Keys".
+-- RULES 2, 5 and 10.
 -- Assumes nothing.
 use mathlib.Core.Bool.{Bool, _&&_}
 use mathlib.Core.List.{List, [], _∷_, _++_}

@@ -1,4 +1,4 @@
--- The ciphers by their number: document 01, "What the library covers" and "Ciphers". AES-128-CCM and AES-128-GCM under one signature;
+-- The ciphers by their number: RULES 1 and 6. AES-128-CCM and AES-128-GCM under one signature;
 -- the nonce is the beginning of a field of 16 bytes.
 -- Assumes nothing.
 use mathlib.Core.Bool.{cond}
@@ -16,7 +16,7 @@ use Rattle.protocol.specs.Bytes.{Bytes}
 abbrev pub aes128 : Bytes → Bytes → Bytes
 aes128 key = blockCipher (keyExpansion 4 10 key)
 
--- document 01, "Ciphers": "11 nonce bytes", "12 nonce bytes": the first of the header's Nonce, whose unused end is ignored
+-- RULES 6: "11 nonce bytes", "12 nonce bytes": the first of the header's Nonce, whose unused end is ignored
 abbrev pub ccmNonce : Bytes → Bytes
 ccmNonce field = take 11 field
 

@@ -1,5 +1,5 @@
--- The walk over the headers of a compounded message: document 01, "The walk over inner headers"; MS-SMB2 3.3.5.2.1.1. "Walk" is
--- document 01's word for judging one header after the other, each found by the one before.
+-- The walk over the headers of a compounded message: RULES 9; MS-SMB2 3.3.5.2.1.1. "Walk" is
+-- our word for judging one header after the other, each found by the one before.
 -- Assumes nothing.
 use mathlib.Core.Bool.{true, cond, not}
 use mathlib.Core.List.{List, [], _∷_}

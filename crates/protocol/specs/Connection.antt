@@ -1,4 +1,4 @@
--- What a connection agreed on: document 01, "What the library covers", "Ciphers" and its numbers 1, 3, 7 and 17. Every call takes it whole;
+-- What a connection agreed on: RULES 1, 6 and its numbers 1, 3, 7 and 17. Every call takes it whole;
 -- a call under one given key looks neither at the role nor at the constraint.
 -- Assumes nothing.
 use mathlib.Core.Bool.{Bool, cond, not, _&&_, _||_}

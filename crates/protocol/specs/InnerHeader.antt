@@ -1,4 +1,4 @@
--- Fields of the inner header at place p of the message m: document 01, "The walk over inner headers"; MS-SMB2 2.2.1.2.
+-- Fields of the inner header at place p of the message m: RULES 9; MS-SMB2 2.2.1.2.
 -- Assumes nothing.
 use mathlib.Core.Bool.{Bool}
 use mathlib.Core.List.{[], _∷_}

@@ -1,4 +1,4 @@
--- The four keys of a session: document 01, "Keys"; MS-SMB2 3.1.4.2 and 3.2.5.3.1.
+-- The four keys of a session: RULES 7; MS-SMB2 3.1.4.2 and 3.2.5.3.1.
 -- `kdf` is a parameter here: from key, label and context to 16 bytes. The suite puts SP 800-108 in counter mode in its place.
 -- Assumes nothing.
 use mathlib.Core.Bool.{cond}
@@ -75,7 +75,7 @@ pub record Keys : Type 0 where
   pub clientToServer : Bytes
   pub serverToClient : Bytes
 
--- document 01, "Numbers a caller can get back": "writes the four keys in the order of the table"
+-- RULES 2: "writes the four keys in the order of the table"
 abbrev pub keysInOrder : Keys → Bytes
 keysInOrder k = k .signing ++ (k .application ++ (k .clientToServer ++ k .serverToClient))
 

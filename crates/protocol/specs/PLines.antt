@@ -1,4 +1,4 @@
--- The P lines of document 01, "Sums to check by hand", as a single list under one statement.
+-- The P lines of RULES 13, as a single list under one statement.
 -- What a line does not name is in order; P5 to P11 speak of number 11 and the walk's rules alone.
 -- Assumes nothing.
 use mathlib.Core.Path.{_≡_}

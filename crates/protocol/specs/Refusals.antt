@@ -1,4 +1,4 @@
--- The table of document 01, "Numbers a caller can get back": one definition for one line, in the table's order, under the name that
+-- The table of RULES 2: one definition for one line, in the table's order, under the name that
 -- include/smb3seal.h has for the number. Which call tests which of them, and in which order, is said in Calls.
 -- Assumes nothing.
 use mathlib.Core.Bool.{Bool, not, _&&_, _||_}

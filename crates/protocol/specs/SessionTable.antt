@@ -1,4 +1,4 @@
--- The session table: document 01, "What the library covers" and "Keys".
+-- The session table: RULES 10.
 -- Assumes nothing.
 use mathlib.Core.Bool.{Bool, true, false, cond, not, _&&_, _||_}
 use mathlib.Core.List.{List, [], _∷_}

@@ -1,4 +1,4 @@
--- The suite: the primitives that document 01, "What the library covers" and "Ciphers", names, out of their own crates' definitions.
+-- The suite: the primitives that RULES 1 and 6 name, out of their own crates' definitions.
 -- Assumes nothing.
 use Rattle.sha2.specs.Sha2.{hash}
 use Rattle.sha2.specs.Sha512 as sha2

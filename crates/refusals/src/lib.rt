@@ -1,4 +1,4 @@
-// The tests before a message is sealed or opened: the number of the first line of document 01's table that applies, else what the later
+// The tests before a message is sealed or opened: the number of the first line of the table of numbers that applies, else what the later
 // lines say. A call's list is a chain of these.
 use answer::refuse;
 use connection::Connection;

@@ -11,16 +11,16 @@ use lib.ListN.{length, take, replicate}
 use lib.Seq.{take-all}
 use Rattle.octets.specs.Numbers.{bytesAt}
 use Rattle.protocol.specs.Bytes.{Bytes}
-use Rattle.protocol.specs.Answer.{Test, refuse_when_, firstOf}
+use Rattle.protocol.specs.Answer.{Answer, done, answerNumber, whenDone, Test, refuse_when_, firstOf}
 use Rattle.protocol.specs.Keys.{Keys, sessionKey, keys311, keys300, derivedKeys, keysInOrder}
 use Rattle.protocol.specs.SessionTable as table
 use Rattle.protocol.specs.Refusals.{idZero, idTaken, tableFull}
-use Rattle.protocol.specs.Calls.{derivation, Lent, onlyKeys, chainTests, materialTests, derivationTests, addTests, tests, effect}
+use Rattle.protocol.specs.Calls.{derivation, Lent, onlyKeys, lines, verdict, chainTests, materialTests, derivationTests, addTests, tests, effect}
 use Rattle.protocol.specs.Contract.{Returns}
-use Rattle.protocol.specs.Suite.{suite, kdf}
+use Rattle.protocol.specs.Suite.{kdf}
 use Rattle.protocol.proofs.BytesLaws.{skip}
 use Rattle.protocol.proofs.CallLaws.{number-lines, lines-done, left-done}
-use Rattle.protocol.proofs.Judging.{positive, positive-first, positive-rest}
+use Rattle.protocol.proofs.Judging.{positive, positive-first, positive-rest, refuses, passes, judge-passed}
 use Rattle.protocol.proofs.SuiteLaws.{suite-sound}
 use Rattle.session_record.specs.declared.Adding.{Adding}
 use Rattle.session_record.specs.Adds.{addingOf, recordWith, AddsWith}
@@ -133,12 +133,14 @@ module _ (a : Adding) (chain material : Bytes) (taken room : Bool) (old : table.
       e ∙ ap (λ (k : ℕ). cond (eqb k 0) (firstOf (idZero (a .id) ∷ idTaken taken ∷ tableFull room ∷ [])) k) derived-number
       ∙ in-turn firstTests (idZero (a .id) ∷ idTaken taken ∷ tableFull room ∷ []) refl
 
+  -- the answer, by the number
+  answered : n ≡ answerNumber (verdict (lines (addTests x taken room)))
+  answered = number-is ∙ sym (number-lines (addTests x taken room) 0)
+
   pub add-refused : (n ≡ 0 → ⊥) → AddsWith x taken room old n old
   add-refused h =
-      record {
-        number = number-is;
-        session = sym (ap (λ (b : Bool). cond b (table.newRecord kdf x) old) (ne-eqb (firstOf (addTests x taken room)) 0 (λ z. h (number-is ∙ z))));
-      }
+      let q = refuses (addTests x taken room) (done 0) n number-is h in
+      record { number = answered; session = sym (ap (λ (v : Answer). whenDone v (λ k. table.newRecord kdf x) old) q) }
 
   module _ (z : n ≡ 0) where
     written : after ≡ keysInOrder (derivedKeys kdf (a .dialect) chain (sessionKey material))
@@ -159,12 +161,8 @@ module _ (a : Adding) (chain material : Bytes) (taken room : Bool) (old : table.
 
     pub add-done : (new : table.Session) → new ≡ recordWith a after → AddsWith x taken room old n new
     add-done new en =
-        record {
-          number = number-is;
-          session =
-              en ∙ made
-              ∙ sym (ap (λ (b : Bool). cond b (table.newRecord kdf x) old) (eq-eqb (firstOf (addTests x taken room)) 0 (sym number-is ∙ z)));
-        }
+        let q = judge-passed (addTests x taken room) (done 0) (passes (addTests x taken room) n refl number-is z) in
+        record { number = answered; session = en ∙ made ∙ sym (ap (λ (v : Answer). whenDone v (λ k. table.newRecord kdf x) old) q) }
 
 -- ---- for the two functions that make number and record
 

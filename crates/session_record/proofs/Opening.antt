@@ -5,7 +5,6 @@ use mathlib.Core.Bool.{Bool, true, false}
 use mathlib.Core.List.{List, [], _++_}
 use mathlib.Core.Option.{Option·getD}
 use Prim.Native.Nat.{ℕ, _<_}
-use native.Mathlib.Omega.{arith}
 use borrow.Author.Tests.{not-false, leb-false}
 use lib.Dec.{leb}
 use lib.ListN.{length}
@@ -16,7 +15,7 @@ use Rattle.protocol.specs.TransformHeader.{TransformHeader, headerOf, sessionId
 use Rattle.protocol.specs.Compound.{walk}
 use Rattle.protocol.specs.SessionTable.{Session, openingKey}
 use Rattle.protocol.specs.Transform.{openedTo}
-use Rattle.protocol.specs.Calls.{openingUnder, Lent, onlyMessage, messageTests, headerTests, recordTests, textTests, openTests, plaintext, verdict, effect}
+use Rattle.protocol.specs.Calls.{openingUnder, Lent, onlyMessage, messageTests, headerTests, recordTests, textTests, openTests, plaintext, effect}
 use Rattle.protocol.specs.Calls.{answer}
 use Rattle.protocol.specs.Contract.{Makes}
 use Rattle.protocol.specs.Suite.{suite}

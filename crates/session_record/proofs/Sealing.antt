@@ -12,7 +12,7 @@ use Rattle.protocol.specs.TransformHeader.{inner}
 use Rattle.protocol.specs.Compound.{walk}
 use Rattle.protocol.specs.Refusals.{counterUsedUp}
 use Rattle.protocol.specs.SessionTable.{Session, sealingKey}
-use Rattle.protocol.specs.Calls.{sealingUnder, Lent, messageAndCounter, messageTests, recordTests, sealTests, sealedWith, verdict, effect, answer}
+use Rattle.protocol.specs.Calls.{sealingUnder, Lent, messageAndCounter, messageTests, recordTests, sealTests, sealedWith, effect, answer}
 use Rattle.protocol.specs.Contract.{Makes}
 use Rattle.protocol.specs.Suite.{suite}
 use Rattle.protocol.proofs.AnswerLaws.{when-part}

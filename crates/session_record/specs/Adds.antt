@@ -3,12 +3,11 @@
 use mathlib.Core.Path.{_≡_}
 use mathlib.Core.Bool.{Bool, true, cond, _||_}
 use Prim.Native.Nat.{ℕ}
-use lib.Dec.{eqb}
 use Rattle.octets.specs.Numbers.{bytesAt}
 use Rattle.protocol.specs.Bytes.{Bytes}
-use Rattle.protocol.specs.Answer.{firstOf}
+use Rattle.protocol.specs.Answer.{answerNumber, whenDone}
 use Rattle.protocol.specs.SessionTable as table
-use Rattle.protocol.specs.Calls.{addTests}
+use Rattle.protocol.specs.Calls.{lines, verdict, addTests}
 use Rattle.protocol.specs.Suite.{kdf}
 use Rattle.session_record.specs.declared.Adding.{Adding}
 
@@ -36,5 +35,5 @@ recordWith a keys =
 
 -- adding, where old stands at the first free place: the number is n, and new stands there afterwards
 pub record AddsWith (a : table.Adding) (taken room : Bool) (old : table.Session) (n : ℕ) (new : table.Session) : Type 0 where
-  pub number : n ≡ firstOf (addTests a taken room)
-  pub session : new ≡ cond (eqb (firstOf (addTests a taken room)) 0) (table.newRecord kdf a) old
+  pub number : n ≡ answerNumber (verdict (lines (addTests a taken room)))
+  pub session : new ≡ whenDone (verdict (lines (addTests a taken room))) (λ k. table.newRecord kdf a) old

@@ -1,4 +1,4 @@
--- The struct of the code, read as document 01's record.
+-- The struct of the code, read as the record of the rules.
 -- Assumes nothing.
 use mathlib.Core.Bool.{Bool, true, false, not, _&&_}
 use Prim.Native.Nat.{ℕ}

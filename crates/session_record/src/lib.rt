@@ -1,4 +1,4 @@
-// One session record by value, and what each call with the session table does with it (document 01, "Keys" and the numbers 1 to 22).
+// One session record by value, and what each call with the session table does with it (RULES 7 and the numbers 1 to 22).
 mod lines;
 mod new;
 
@@ -33,7 +33,7 @@ pub struct Adding {
     pub anonymous: bool,
 }
 
-// What adding and removing give: document 01's number, and the record after it.
+// What adding and removing give: the number of RULES 2, and the record after it.
 pub struct Changed {
     pub number: u32,
     pub session: Session,

@@ -1,4 +1,4 @@
-// Lines of document 01's table about one record: the number of the first that applies, else what the later lines say.
+// Lines of the table of numbers about one record: the number of the first that applies, else what the later lines say.
 use crate::Session;
 use answer::refuse;
 use connection::Connection;

@@ -1,4 +1,4 @@
-pub mod Calls
+pub mod Lending
 pub mod Kit
 pub mod Leaving
 pub mod Said

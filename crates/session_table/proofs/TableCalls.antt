@@ -3,21 +3,20 @@
 use mathlib.Core.Path.{_≡_, refl, sym, ap, subst, _∙_}
 use mathlib.Core.Bool.{Bool, true, false, cond, not, _&&_, true≢false}
 use mathlib.Core.List.{List, [], _∷_, _++_}
-use mathlib.Core.Option.{Option·getD}
 use Prim.Native.Nat.{ℕ, _<_, _^_}
 use native.Mathlib.Omega.{arith}
 use borrow.Author.Tests.{eqb-true, eqb-false, leb-false}
 use lib.Dec.{eqb, leb, ltb}
-use lib.ListN.{length, getD, set, take}
+use lib.ListN.{length, getD, set}
 use Rattle.protocol.specs.Bytes.{Bytes}
-use Rattle.protocol.specs.Answer.{Answer, done, refused, isRefused, whenDone, Test, refuse_when_, firstOf, judgeAfter}
+use Rattle.protocol.specs.Answer.{Answer, done, refused, answerNumber, whenDone, Test, refuse_when_, firstOf, judgeAfter}
 use Rattle.protocol.specs.Connection.{Connection, encrypts, lastCounter}
 use Rattle.protocol.specs.TransformHeader.{inner, sessionIdOf, TransformHeader}
 use Rattle.protocol.specs.Compound.{walk}
 use Rattle.protocol.specs.Refusals.{otherSession, counterUsedUp}
 use Rattle.protocol.specs.SessionTable as protocol
 use Rattle.protocol.specs.Transform.{openedTo}
-use Rattle.protocol.specs.Calls.{adding, removing, sealing, opening, onlyTable, messageAndTable, messageTests, recordTests, addTests, sealTests, sealedWith, openTests, plaintext, verdict, tests, effect, answer}
+use Rattle.protocol.specs.Calls.{lines, adding, removing, sealing, opening, onlyTable, messageAndTable, messageTests, recordTests, addTests, sealTests, sealedWith, openTests, plaintext, verdict, tests, effect, answer}
 use Rattle.protocol.specs.Contract.{Makes, Returns}
 use Rattle.protocol.specs.Suite.{suite, kdf}
 use Rattle.protocol.proofs.AnswerLaws.{when-part, when-two}
@@ -82,32 +81,30 @@ removed-says ys zs id i s t e e′ et ez =
     (ap tableOf (ez ∙ (λ j. set ys (e j) (et j .session))) ∙ sym (changes (λ x. protocol.freeRecord) id ys free refl))
 
 -- adding
-filled : (b : Bool) (made : protocol.Session) (ys : List Session) (new : Session) → sessionOf new ≡ cond b made (sessionOf (getD ys (freePlace ys) free)) → tableOf (set ys (freePlace ys) new) ≡ cond b (protocol.fillFree made (tableOf ys)) (tableOf ys)
-filled true made ys new e = sym (fills new ys) ∙ ap (λ (s : protocol.Session). protocol.fillFree s (tableOf ys)) e
-filled false made ys new e = keeps ys (freePlace ys) new e
-
-adds : (a : protocol.Adding) (t t′ : List protocol.Session) (n : ℕ) → n ≡ firstOf (addTests a ((protocol.recordOf (a .id) t) .used) (protocol.hasFree t))
-    → t′ ≡ cond (eqb n 0) (protocol.fillFree (protocol.newRecord kdf a) t) t → Returns (adding a) (onlyTable t) n (onlyTable t′)
-unfolding tests effect
-adds a t t′ n en et = go (eqb n 0) refl
-  where
-    lines : List Test
-    lines = addTests a ((protocol.recordOf (a .id) t) .used) (protocol.hasFree t)
-
-    go : (b : Bool) → eqb n 0 ≡ b → Returns (adding a) (onlyTable t) n (onlyTable t′)
-    go true z = lines-return-done (adding a) (onlyTable t) lines 0 n refl en refl (eqb-true n 0 z) (onlyTable t′) (rw (et, z))
-    go false z =
-        let stays : t′ ≡ t = et ∙ rw z in
-        rw stays (lines-return (adding a) (onlyTable t) lines 0 n refl en (eqb-false n 0 z))
+filled : (v : Answer) (made : protocol.Session) (ys : List Session) (new : Session)
+    → sessionOf new ≡ whenDone v (λ k. made) (sessionOf (getD ys (freePlace ys) free))
+    → tableOf (set ys (freePlace ys) new) ≡ whenDone v (λ k. protocol.fillFree made (tableOf ys)) (tableOf ys)
+filled (done n) made ys new e = sym (fills new ys) ∙ ap (λ (s : protocol.Session). protocol.fillFree s (tableOf ys)) e
+filled (refused n) made ys new e = keeps ys (freePlace ys) new e
 
 module _ (ys zs : List Session) (x : Adding) (material chain : Bytes) (i f : ℕ) (there old : Session) (t : Changed) where
   abbrev asked : protocol.Adding
   asked = addingOf x chain material
 
+  abbrev added : Bool → Bool → Answer
+  added taken room = verdict (lines (addTests asked taken room))
+
   pub added-says : i ≡ placeOf (x .id) ys → there ≡ getD ys i free → f ≡ freePlace ys → old ≡ getD ys f free
       → AddsWith asked (there .used) (ltb f (length ys)) (sessionOf old) (t .number) (sessionOf (t .session)) → zs ≡ set ys f (t .session)
       → Returns (adding asked) (onlyTable (tableOf ys)) (t .number) (onlyTable (tableOf zs))
-  added-says e e′ ef eo o ez = adds asked (tableOf ys) (tableOf zs) (t .number) number-is table-is
+  unfolding tests effect
+  added-says e e′ ef eo o ez =
+      record {
+        number = o .number ∙ ap answerNumber same;
+        leaves =
+            ap onlyTable (ap tableOf (ez ∙ ap (λ (k : ℕ). set ys k (t .session)) ef) ∙ filled answered (protocol.newRecord kdf asked) ys (t .session) stored)
+            ∙ when-part onlyTable answered (protocol.fillFree (protocol.newRecord kdf asked) (tableOf ys)) (tableOf ys);
+      }
     where
       used : there .used ≡ protocol.recordOf (x .id) (tableOf ys) .used
       used = ap (λ (s : protocol.Session). s .used) (taken ys (x .id) i there e e′)
@@ -115,17 +112,17 @@ module _ (ys zs : List Session) (x : Adding) (material chain : Bytes) (i f : ℕ
       room : ltb f (length ys) ≡ protocol.hasFree (tableOf ys)
       room = ap (λ (k : ℕ). ltb k (length ys)) ef ∙ sym (has-free ys)
 
+      answered : Answer
+      answered = added (protocol.recordOf (x .id) (tableOf ys) .used) (protocol.hasFree (tableOf ys))
+
+      same : added (there .used) (ltb f (length ys)) ≡ answered
+      same = λ j. added (used j) (room j)
+
       at-free : old ≡ getD ys (freePlace ys) free
       at-free = eo ∙ ap (λ (k : ℕ). getD ys k free) ef
 
-      number-is : t .number ≡ firstOf (addTests asked (protocol.recordOf (x .id) (tableOf ys) .used) (protocol.hasFree (tableOf ys)))
-      number-is = o .number ∙ (λ j. firstOf (addTests asked (used j) (room j)))
-
-      table-is : tableOf zs ≡ cond (eqb (t .number) 0) (protocol.fillFree (protocol.newRecord kdf asked) (tableOf ys)) (tableOf ys)
-      table-is =
-          ap tableOf (ez ∙ ap (λ (k : ℕ). set ys k (t .session)) ef)
-          ∙ filled (eqb (t .number) 0) (protocol.newRecord kdf asked) ys (t .session)
-          (o .session ∙ (λ j. cond (eqb (sym (o .number) j) 0) (protocol.newRecord kdf asked) (sessionOf (at-free j))))
+      stored : sessionOf (t .session) ≡ whenDone answered (λ k. protocol.newRecord kdf asked) (sessionOf (getD ys (freePlace ys) free))
+      stored = o .session ∙ (λ j. whenDone (same j) (λ k. protocol.newRecord kdf asked) (sessionOf (at-free j)))
 
 -- sealing
 module _ (c : Connection) (id : ℕ) (m : Bytes) (t : List protocol.Session) where

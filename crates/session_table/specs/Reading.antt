@@ -1,4 +1,4 @@
--- The table of the code, read as document 01's.
+-- The table of the code, read as the rules'.
 -- Assumes nothing.
 use mathlib.Core.List.{List, map}
 use Rattle.protocol.specs.SessionTable as protocol

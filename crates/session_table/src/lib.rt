@@ -1,4 +1,4 @@
-// The session table: a run of records that the caller lends (document 01, "Keys" and the numbers 1 to 22). Each public function is a
+// The session table: a run of records that the caller lends (RULES 7 and the numbers 1 to 22). Each public function is a
 // straight line of calls; what there is to decide about one record is in `session`, which takes it by value.
 use answer::Answer;
 use connection::Connection;

@@ -1,10 +1,10 @@
 // The login: both ends fold its messages, and add the session from the value that they come to.
 use crate::calls;
 use crate::show;
-use session::Adding;
-use session::Connection;
-use session::Role;
-use session::Session;
+use connection::Connection;
+use connection::Role;
+use session_record::Adding;
+use table_by_value::Table;
 
 // The chain at both ends, and where the line's next word begins.
 struct Chains {
@@ -25,8 +25,8 @@ pub struct Login {
 
 // The two tables.
 pub struct Ends {
-    pub client: [Session; 4],
-    pub server: [Session; 4],
+    pub client: Table,
+    pub server: Table,
 }
 
 // A message that is always folded.
@@ -143,8 +143,8 @@ pub fn server(l: Login) -> Connection {
 }
 
 // The four keys of a record.
-fn keys(what: &[u8], t: [Session; 4], id: u64) {
-    let s = sessions_by_value::lookup_in(t, id);
+fn keys(what: &[u8], t: Table, id: u64) {
+    let s = table_by_value::lookup_in(t, id);
     let signing = s.signing;
     let application = s.application;
     let client_to_server = s.client_to_server;
@@ -161,14 +161,14 @@ fn keys(what: &[u8], t: [Session; 4], id: u64) {
 }
 
 // The client adds, from its chain value.
-pub fn client_adds(what: &[u8], l: Login, from: [Session; 4], a: Adding) -> [Session; 4] {
+pub fn client_adds(what: &[u8], l: Login, from: Table, a: Adding) -> Table {
     let key = l.key;
     let chain = l.client_chain;
     calls::add(what, from, a, &key, &chain)
 }
 
 // The server adds, from its own.
-fn server_adds(what: &[u8], l: Login, from: [Session; 4], a: Adding) -> [Session; 4] {
+fn server_adds(what: &[u8], l: Login, from: Table, a: Adding) -> Table {
     let key = l.key;
     let chain = l.server_chain;
     calls::add(what, from, a, &key, &chain)
@@ -176,7 +176,7 @@ fn server_adds(what: &[u8], l: Login, from: [Session; 4], a: Adding) -> [Session
 
 // Both ends add the session.
 pub fn both_add(l: Login) -> Ends {
-    let none = [session::vacant(); 4];
+    let none = table_by_value::empty();
     let client = client_adds(b"client adds", l, none, adding(l.id));
     let server = server_adds(b"server adds", l, none, adding(l.id));
     keys(b"client's keys", client, l.id);

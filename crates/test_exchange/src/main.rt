@@ -1,6 +1,6 @@
 // A client and a server, each with a session table, taken through a whole exchange. Each line of standard input is a published
 // session (source 000): its id, cipher and session key, the messages of its login, a sealed request and a sealed response. For each
-// step a line is written: what is done, the number of document 01, and what it left. `stdout` has what document 01 says of each.
+// step a line is written: what is done, the number of the rules, and what it left. `stdout` has what the rules says of each.
 mod calls;
 mod login;
 mod message;
@@ -11,7 +11,7 @@ mod traffic;
 
 use login::Ends;
 use login::Login;
-use session::Session;
+use table_by_value::Table;
 
 // Messages that go across.
 fn messages(line: &[u8], l: Login, from: Ends) -> Ends {
@@ -22,7 +22,7 @@ fn messages(line: &[u8], l: Login, from: Ends) -> Ends {
 }
 
 // What the client's table refuses.
-fn refused(l: Login, from: [Session; 4]) -> [Session; 4] {
+fn refused(l: Login, from: Table) -> Table {
     let t1 = refusals::guest(l, from);
     let t2 = refusals::anonymous(l, t1);
     let t3 = refusals::constrained(l, t2);

@@ -4,12 +4,12 @@ use crate::login;
 use crate::login::Ends;
 use crate::login::Login;
 use crate::message;
-use session::Adding;
-use session::Connection;
-use session::Session;
+use connection::Connection;
+use session_record::Adding;
+use table_by_value::Table;
 
 // The server opens the client's message with one bit changed.
-fn changed(what: &[u8], l: Login, t: [Session; 4], sealed: [u8; 180], at: usize) {
+fn changed(what: &[u8], l: Login, t: Table, sealed: [u8; 180], at: usize) {
     let other = message::damaged(sealed, at);
     calls::open(what, t, login::server(l), other, message::plain(l.id, 6));
 }
@@ -81,14 +81,7 @@ fn bare(id: u64, guest: bool, anonymous: bool) -> Adding {
 }
 
 // A message of the id, sealed and opened at the client. Both are refused.
-fn at_client(
-    seals: &[u8],
-    opens: &[u8],
-    from: [Session; 4],
-    c: Connection,
-    id: u64,
-    number: u8,
-) -> [Session; 4] {
+fn at_client(seals: &[u8], opens: &[u8], from: Table, c: Connection, id: u64, number: u8) -> Table {
     let m = message::plain(id, number);
     let sent = calls::seal(seals, from, c, id, m);
     let after = sent.table;
@@ -97,7 +90,7 @@ fn at_client(
 }
 
 // 8: the client has a guest's session, 2.
-pub fn guest(l: Login, from: [Session; 4]) -> [Session; 4] {
+pub fn guest(l: Login, from: Table) -> Table {
     let c = login::client(l);
     let t1 = login::client_adds(b"client adds 2, guest", l, from, bare(2, true, false));
     at_client(
@@ -111,7 +104,7 @@ pub fn guest(l: Login, from: [Session; 4]) -> [Session; 4] {
 }
 
 // 8: and an anonymous one, 3.
-pub fn anonymous(l: Login, from: [Session; 4]) -> [Session; 4] {
+pub fn anonymous(l: Login, from: Table) -> Table {
     let c = login::client(l);
     let t1 = login::client_adds(b"client adds 3, anonymous", l, from, bare(3, false, true));
     at_client(
@@ -131,7 +124,7 @@ fn constraint(from: Connection) -> Connection {
 }
 
 // 7: the client's connection is constrained. It comes before 8.
-pub fn constrained(l: Login, from: [Session; 4]) -> [Session; 4] {
+pub fn constrained(l: Login, from: Table) -> Table {
     let c = constraint(login::client(l));
     let t1 = at_client(
         b"client seals, constrained",
@@ -152,7 +145,7 @@ pub fn constrained(l: Login, from: [Session; 4]) -> [Session; 4] {
 }
 
 // 6: no session has the id 9.
-pub fn unknown_id(l: Login, from: [Session; 4]) -> [Session; 4] {
+pub fn unknown_id(l: Login, from: Table) -> Table {
     let c = login::client(l);
     let t1 = at_client(
         b"client seals for 9",
@@ -172,7 +165,7 @@ fn unencrypted(from: Connection) -> Connection {
 }
 
 // 1: the client's connection does not encrypt.
-pub fn encryption_off(l: Login, from: [Session; 4]) -> [Session; 4] {
+pub fn encryption_off(l: Login, from: Table) -> Table {
     let c = unencrypted(login::client(l));
     at_client(
         b"client seals, encryption off",

@@ -1,8 +1,8 @@
 // The lines that are written.
 use crate::message;
-use compound::Outcome;
+use answer::Answer;
 use libc::STDOUT_FILENO;
-use preauth::Folding;
+use preauth::FoldAnswer;
 
 pub fn say(words: &[u8]) {
     io::write_all(STDOUT_FILENO, words);
@@ -37,17 +37,17 @@ pub fn yes_or_no(what: &[u8], yes: bool) {
 }
 
 // A fold: the number, and 1 for folded, 0 for not folded.
-fn fold(end: &[u8], f: Folding) {
+fn fold(end: &[u8], f: FoldAnswer) {
     say(end);
     test_lines::show_decimal(preauth::number(f) as u64);
-    if preauth::folded_after(f, 0) == 1 {
+    if preauth::folded_to(f, 0) == 1 {
         say(b" folded");
     } else {
         say(b" not folded");
     }
 }
 
-pub fn folds(what: &[u8], client: Folding, server: Folding) {
+pub fn folds(what: &[u8], client: FoldAnswer, server: FoldAnswer) {
     begin(what);
     fold(b"client ", client);
     fold(b", server ", server);
@@ -55,16 +55,16 @@ pub fn folds(what: &[u8], client: Folding, server: Folding) {
 }
 
 // The number, and the headers visited where it is 0.
-fn outcome(what: &[u8], out: Outcome) {
+fn outcome(what: &[u8], out: Answer) {
     begin(what);
-    test_lines::show_decimal(compound::number(out) as u64);
-    if !compound::refused(out) {
+    test_lines::show_decimal(answer::number(out) as u64);
+    if !answer::refused(out) {
         say(b", headers ");
-        test_lines::show_decimal(compound::headers_after(out, 0));
+        test_lines::show_decimal(answer::carried_to(out, 0));
     }
 }
 
-pub fn answered(what: &[u8], out: Outcome) {
+pub fn answered(what: &[u8], out: Answer) {
     outcome(what, out);
     test_lines::end_line();
 }
@@ -78,11 +78,11 @@ fn unchanged(same: bool) {
 }
 
 // A seal: the record's counter after it, and the sealed message or that it is as it was.
-pub fn sealed(what: &[u8], out: Outcome, counter: u64, m: [u8; 180], plain: [u8; 180]) {
+pub fn sealed(what: &[u8], out: Answer, counter: u64, m: [u8; 180], plain: [u8; 180]) {
     outcome(what, out);
     say(b", counter ");
     test_lines::show_decimal(counter);
-    if compound::refused(out) {
+    if answer::refused(out) {
         unchanged(message::equal(m, plain));
     } else {
         say(b", ");
@@ -92,9 +92,9 @@ pub fn sealed(what: &[u8], out: Outcome, counter: u64, m: [u8; 180], plain: [u8;
 }
 
 // An opening: whether header and plaintext are as sealed, or the message is as it was.
-pub fn opened(what: &[u8], out: Outcome, m: [u8; 180], sealed: [u8; 180], plain: [u8; 180]) {
+pub fn opened(what: &[u8], out: Answer, m: [u8; 180], sealed: [u8; 180], plain: [u8; 180]) {
     outcome(what, out);
-    if compound::refused(out) {
+    if answer::refused(out) {
         unchanged(message::equal(m, sealed));
     } else if message::joined(m, sealed, plain) {
         say(b", bytes as sealed");

@@ -5,12 +5,12 @@ use crate::login::Ends;
 use crate::login::Login;
 use crate::message;
 use crate::show;
-use session::Adding;
-use session::Session;
+use session_record::Adding;
+use table_by_value::Table;
 
 // The client's record of an id: its counter.
-fn counter(t: [Session; 4], id: u64) {
-    let s = sessions_by_value::lookup_in(t, id);
+fn counter(t: Table, id: u64) {
+    let s = table_by_value::lookup_in(t, id);
     show::begin(b"client's counter");
     test_lines::show_decimal(s.counter);
     test_lines::end_line();
@@ -23,19 +23,19 @@ fn other_dialect(from: Adding) -> Adding {
 }
 
 // From a chain value of 63 bytes, and no key.
-fn short_chain_no_key(what: &[u8], from: [Session; 4], a: Adding) -> [Session; 4] {
+fn short_chain_no_key(what: &[u8], from: Table, a: Adding) -> Table {
     let short = [0u8; 63];
     calls::add(what, from, a, b"", &short)
 }
 
 // From the client's chain value, and no key.
-fn no_key(what: &[u8], l: Login, from: [Session; 4], a: Adding) -> [Session; 4] {
+fn no_key(what: &[u8], l: Login, from: Table, a: Adding) -> Table {
     let chain = l.client_chain;
     calls::add(what, from, a, b"", &chain)
 }
 
 // 40, 18, 19, 20, 21: each comes before those that stand after it.
-pub fn adding_refused(l: Login, from: [Session; 4]) -> [Session; 4] {
+pub fn adding_refused(l: Login, from: Table) -> Table {
     let zero = login::adding(0);
     let old = other_dialect(zero);
     let t1 = short_chain_no_key(
@@ -49,15 +49,25 @@ pub fn adding_refused(l: Login, from: [Session; 4]) -> [Session; 4] {
     login::client_adds(b"client adds the session again", l, t4, login::adding(l.id))
 }
 
-// 22: four records are used. 21 comes before it.
-pub fn full(l: Login, from: [Session; 4]) -> [Session; 4] {
-    let t1 = login::client_adds(b"client adds 4", l, from, login::adding(4));
-    let t2 = login::client_adds(b"client adds 5, no free record", l, t1, login::adding(5));
+// The sessions 4 to 16: as many as the table has records left.
+fn filled(l: Login, from: Table) -> Table {
+    let mut t = from;
+    for id in 4..17 {
+        let next = login::client_adds(b"client adds another", l, t, login::adding(id));
+        t = next;
+    }
+    t
+}
+
+// 22: all records are used. 21 comes before it.
+pub fn full(l: Login, from: Table) -> Table {
+    let t1 = filled(l, from);
+    let t2 = login::client_adds(b"client adds 17, no free record", l, t1, login::adding(17));
     login::client_adds(b"client adds 4, no free record", l, t2, login::adding(4))
 }
 
 // 6: the client has taken the session out.
-pub fn removed(l: Login, client: [Session; 4], server: [Session; 4]) -> Ends {
+pub fn removed(l: Login, client: Table, server: Table) -> Ends {
     let c = login::client(l);
     let s = login::server(l);
     let m = message::plain(l.id, 12);

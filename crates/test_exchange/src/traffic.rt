@@ -5,8 +5,8 @@ use crate::login::Ends;
 use crate::login::Login;
 use crate::message;
 use crate::show;
-use session::Connection;
-use session::Session;
+use connection::Connection;
+use table_by_value::Table;
 
 pub fn client_seals_and_server_opens(l: Login, e: Ends) -> Ends {
     let c = login::client(l);
@@ -52,14 +52,14 @@ pub fn server_seals_and_client_opens(l: Login, e: Ends) -> Ends {
     }
 }
 
-fn open_published(what: &[u8], t: [Session; 4], c: Connection, message: &mut [u8]) {
-    let answer = sessions_by_value::open_in(t, c, message);
+fn open_published(what: &[u8], t: Table, c: Connection, message: &mut [u8]) {
+    let answer = table_by_value::open_in(t, c, message);
     show::answered(what, answer);
     show::bytes(b"its bytes", message);
 }
 
 // Opens the message that the line's word at `at` is; gives the place of the next word.
-fn published(what: &[u8], line: &[u8], at: usize, t: [Session; 4], c: Connection) -> usize {
+fn published(what: &[u8], line: &[u8], at: usize, t: Table, c: Connection) -> usize {
     let mut message = [0u8; 1024];
     let m = test_lines::bytes(line, at, &mut message);
     let len = m.len;
@@ -90,7 +90,7 @@ pub fn published_messages_open(line: &[u8], l: Login, e: Ends) {
 }
 
 // The third of three messages arrives before the first, and then once more. The second is lost.
-fn out_of_order(l: Login, t: [Session; 4], first: [u8; 180], third: [u8; 180]) {
+fn out_of_order(l: Login, t: Table, first: [u8; 180], third: [u8; 180]) {
     let s = login::server(l);
     let m3 = message::plain(l.id, 3);
     let m5 = message::plain(l.id, 5);

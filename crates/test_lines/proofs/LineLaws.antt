@@ -11,6 +11,7 @@ use borrow.Author.Tests.{eq-eqb, ne-eqb, lt-ltb, le-ltb, leb-true, ltb-true, ltb
 use lib.Dec.{eqb, leb, ltb}
 use lib.ListN.{length, getD, take, drop, set, length-append, length-take, length-drop, length-set, drop-of-length-le, take-append-drop}
 use lib.Seq.{drop-cons, drop-drop, take-all, take-at, take-suc, take-suc-set, drop-set-lt, length-take-le}
+use Rattle.octets.proofs.BoolLaws.{and-true}
 use Rattle.octets.specs.Numbers.{bigEndianAfter, bigEndian}
 use Rattle.octets.specs.Same.{sameBytes}
 use Rattle.octets.proofs.NumberLaws.{big-append}
@@ -23,10 +24,6 @@ from : (l : List ℕ) (i : ℕ) → i < length l → drop i l ≡ getD l i 0 ∷
 from l i h = drop-cons l i 0 h ∙ ap (λ (k : ℕ). getD l i 0 ∷ drop k l) (sym (add-one i))
 
 -- ---- two tests
-
-both : (a b : Bool) → (a && b) ≡ true → (a ≡ true) × (b ≡ true)
-both true b e = (refl, e)
-both false b e = absurd (let z : _≡_ {A = ℕ} 0 1 = cc in omega arith)
 
 -- ---- the place behind a byte
 
@@ -120,7 +117,7 @@ reading-start line at out e = record { bound = omega arith; size = refl; next = 
 pub reading-on : {line out₀ out : List ℕ} {at n i b : ℕ} → Reading line at out₀ out n i b → (ltb n (length out) && ltb b 256) ≡ true
     → (n < length out) × (b < 256) × (i + 2 ≤ length line)
 reading-on {line} {out₀} {out} {at} {n} {i} {b} s t =
-    let q = both (ltb n (length out)) (ltb b 256) t in
+    let q = and-true (ltb n (length out)) (ltb b 256) t in
     let h : b < 256 = ltb-true b 256 (q .1) in
     (ltb-true n (length out) (q .0), h, byte-within line i (omega (arith, s .next)))
 
@@ -200,11 +197,11 @@ module _ {line out out′ : List ℕ} {at len next : ℕ} (s : Reads line at out
 module _ (b : ℕ) where
   pub digit-decimal : (leb 48 b && leb b 57) ≡ true → (48 ≤ b) × (b - 48 ≡ digit b)
   unfolding digit
-  digit-decimal e = (leb-true 48 b (both (leb 48 b) (leb b 57) e .0), sym (rw e))
+  digit-decimal e = (leb-true 48 b (and-true (leb 48 b) (leb b 57) e .0), sym (rw e))
 
   pub digit-letter : (leb 48 b && leb b 57) ≡ false → (leb 97 b && leb b 102) ≡ true → (87 ≤ b) × (b - 87 ≡ digit b)
   unfolding digit
-  digit-letter e f = (let h = leb-true 97 b (both (leb 97 b) (leb b 102) f .0) in omega arith, sym (rw (e, f)))
+  digit-letter e f = (let h = leb-true 97 b (and-true (leb 97 b) (leb b 102) f .0) in omega arith, sym (rw (e, f)))
 
   pub digit-none : (leb 48 b && leb b 57) ≡ false → (leb 97 b && leb b 102) ≡ false → 16 ≡ digit b
   unfolding digit

@@ -3,7 +3,7 @@
 use mathlib.Core.Bool.{Bool, true, false, cond, _&&_}
 use mathlib.Core.List.{List}
 use mathlib.Core.Option.{Option, Option·getD}
-use mathlib.Core.Path.{_≡_, refl, ap, ap₂, _∙_}
+use mathlib.Core.Path.{_≡_, ap, ap₂, _∙_}
 use Prim.Native.Nat.{ℕ, _<_, _-_, _^_}
 use native.Mathlib.Nat.{le-of-eq}
 use native.Mathlib.Omega.{arith}
@@ -11,6 +11,7 @@ use borrow.Author.Tests.{eqb-true, ltb-true}
 use lib.Dec.{eqb, ltb}
 use lib.ListN.{length}
 use lib.Seq.{paste, take-all}
+use Rattle.octets.proofs.BoolLaws.{and-true}
 use Rattle.aes.specs.KeyExpansion.{keyExpansion}
 use Rattle.octets.specs.Maybe.{isSome}
 use Rattle.octets.specs.Numbers.{bytesAt}
@@ -60,20 +61,16 @@ writes-value {v} {out} n value l e w =
 
 -- ---- the tests of lengths
 
-both : (a b : Bool) → (a && b) ≡ true → (a ≡ true) × (b ≡ true)
-both true b e = (refl, e)
-both false b e = absurd (let z : _≡_ {A = ℕ} 0 1 = cc in omega arith)
-
 pub three : (a b c : Bool) → (a && b && c) ≡ true → (a ≡ true) × (b ≡ true) × (c ≡ true)
 three a b c e =
-    let p = both (a && b) c e in
-    let q = both a b (p .0) in
+    let p = and-true (a && b) c e in
+    let q = and-true a b (p .0) in
     (q .0, q .1, p .1)
 
 five : (a b c d f : Bool) → (a && b && c && d && f) ≡ true → (a ≡ true) × (b ≡ true) × (c ≡ true) × (d ≡ true) × (f ≡ true)
 five a b c d f e =
-    let p = both (a && b && c && d) f e in
-    let q = both (a && b && c) d (p .0) in
+    let p = and-true (a && b && c && d) f e in
+    let q = and-true (a && b && c) d (p .0) in
     let t = three a b c (q .0) in
     (t .0, t .1, t .2, q .1, p .1)
 

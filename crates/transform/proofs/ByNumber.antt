@@ -10,9 +10,9 @@ use Rattle.octets.specs.Maybe.{isSome}
 use Rattle.aes.specs.KeyExpansion.{keyExpansion}
 use Rattle.ctr.specs.BlockCipher.{blockCipher}
 use Rattle.ccm.specs.Ccm as ccm
-use Rattle.ccm.specs.Calls as ccm-calls
+use Rattle.ccm.specs.Contracts as ccm-calls
 use Rattle.gcm.specs.Gcm as gcm
-use Rattle.gcm.specs.Calls as gcm-calls
+use Rattle.gcm.specs.Contracts as gcm-calls
 use Rattle.protocol.specs.Bytes.{Bytes}
 use Rattle.protocol.specs.Ciphers.{Cipher, aes128Ccm, aes128Gcm, ccmNonce, gcmNonce, cipherOf}
 use Rattle.transform.specs.Steps.{Enciphered, Deciphered}

@@ -1,19 +1,19 @@
 -- Opening, a way out at a time.
 -- Assumes nothing.
 use mathlib.Core.Path.{_≡_, refl, sym, ap, _∙_}
-use mathlib.Core.Bool.{Bool, true, false, cond}
+use mathlib.Core.Bool.{Bool, true, false}
 use mathlib.Core.List.{List, [], _∷_, _++_}
 use mathlib.Core.Option.{Option, none, some, Option·getD}
-use Prim.Native.Nat.{ℕ, _-_, _≤_, _<_}
+use Prim.Native.Nat.{ℕ, _-_}
 use native.Mathlib.Omega.{arith}
-use borrow.Author.Tests.{eq-eqb, ne-eqb, le-leb, lt-ltb, le-ltb, leb-false}
+use borrow.Author.Tests.{eq-eqb, ne-eqb, leb-false}
 use borrow.Rule.Slice.PartMut.{putMid}
 use lib.Dec.{eqb, leb}
 use lib.ListN.{length, take, drop}
 use Rattle.octets.specs.Maybe.{isSome}
 use Rattle.protocol.specs.Bytes.{Bytes}
-use Rattle.protocol.specs.Answer.{Answer, refused, isRefused, Test, firstElse, firstOf, judge, whenDone}
-use Rattle.protocol.specs.Connection.{Connection, encrypts, cipherUsed}
+use Rattle.protocol.specs.Answer.{Answer, refused, isRefused, Test, firstElse, firstOf, judge}
+use Rattle.protocol.specs.Connection.{Connection, cipherUsed}
 use Rattle.protocol.specs.TransformHeader.{TransformHeader, headerOf, inner, sessionIdOf}
 use Rattle.protocol.specs.InnerHeader.{Envelope}
 use Rattle.protocol.specs.Compound.{walk}
@@ -26,12 +26,12 @@ use Rattle.protocol.specs.Suite.{suite, ciphers}
 use Rattle.protocol.proofs.AnswerLaws.{when-done, when-refused, when-part, after-nothing}
 use Rattle.protocol.proofs.CallLaws.{makes-when, makes-refused}
 use Rattle.protocol.proofs.First.{First, first-passed}
-use Rattle.protocol.proofs.FirstOf.{first-of-both, first-append}
+use Rattle.protocol.proofs.FirstOf.{first-of-both}
 use Rattle.protocol.proofs.Judging.{refuses, passes, judge-passed, judge-append}
 use Rattle.protocol.proofs.SuiteLaws.{suite-sound}
 use Rattle.transform_header.specs.Reading.{headerIn}
 use Rattle.transform_header.proofs.HeaderIn.{header-there}
-use Rattle.transform.specs.Steps.{Deciphered, Sized, sizeThenWalk, deciphered, OpensBody, OpensMessage}
+use Rattle.transform.specs.Steps.{Deciphered, sizeThenWalk, deciphered, OpensBody, OpensMessage}
 use Rattle.transform.proofs.Inner.{lent, back, when-inner}
 
 module _ (h : TransformHeader) (e : Envelope) (n : ℕ) (text : Bytes) where

@@ -3,7 +3,7 @@ ghost use mathlib.Core.Path.{_≡_};
 ghost use Prim.Native.Nat.{ℕ, _<_};
 ghost use mathlib.Core.List.{List};
 ghost use lib.ListN.{length};
-ghost use Rattle.gcm.specs.Calls.{longest};
+ghost use Rattle.gcm.specs.Contracts.{longest};
 ghost use Rattle.aes.specs.KeyExpansion.{keyExpansion};
 ghost use Rattle.protocol.specs.Ciphers.{cipherOf};
 ghost use Rattle.transform.specs.Steps.{Enciphered, Deciphered};

@@ -1,4 +1,4 @@
-// Sealing and opening in place under one given key (document 01, "Transform header"; MS-SMB2 3.1.4.3, 3.2.5.1.1 and 3.3.5.2.1).
+// Sealing and opening in place under one given key (RULES 4; MS-SMB2 3.1.4.3, 3.2.5.1.1 and 3.3.5.2.1).
 mod body;
 mod cipher;
 

@@ -1,7 +1,6 @@
--- The struct of the code, read as document 01's header.
+-- The struct of the code, read as the header of the rules.
 -- Assumes nothing.
 use mathlib.Core.Bool.{false, cond}
-use Prim.Native.Nat.{ℕ}
 use lib.Dec.{ltb}
 use lib.ListN.{length, replicate}
 use Rattle.protocol.specs.Bytes.{Bytes}

@@ -1,4 +1,4 @@
-// The transform header (document 01, "Transform header"; MS-SMB2 2.2.41): read once into a struct, and the fields that sealing writes.
+// The transform header (RULES 4; MS-SMB2 2.2.41): read once into a struct, and the fields that sealing writes.
 ghost use mathlib.Core.Path.{_≡_};
 ghost use Rattle.protocol.specs.TransformHeader.{nonceOf, authenticated};
 ghost use Rattle.transform_header.specs.Reading.{headerFrom, headerIn};

@@ -16,9 +16,6 @@ Inv-loop message e first p₀ n₀ p n = Walking message (envelopeOf e) p n
 abbrev μ-loop : tie.MeasureT-loop
 μ-loop message e first p₀ n₀ p n = length message - p
 
-first-number-requires : tie.Need-first-number-requires Inv-loop μ-loop
-first-number-requires c κs = search needs
-
 returns : tie.Need-returns Inv-loop μ-loop
 returns c =
     let a = c .before .before .before .args in
@@ -29,12 +26,6 @@ loop-holds c =
     let a = c .before .before .before .args in
     begins (a .message .now) (envelopeOf (a .e)) _ (c .before .first-number .ensures) (c .if1 .left)
 
-next-command-requires : tie.Need-next-command-requires Inv-loop μ-loop
-next-command-requires c κs = omega arith
-
-next-number-requires : tie.Need-next-number-requires Inv-loop μ-loop
-next-number-requires c κs = omega arith
-
 add-p : tie.Need-add-p Inv-loop μ-loop
 add-p c =
     let a = c .before .before .before .before .before .before .before .before .args in
@@ -42,12 +33,6 @@ add-p c =
     let next = goes-on (a .message .now) (envelopeOf (a .e)) (l .p) (l .n) (l .inv) _ (c .before .before .before .next-command .ensures)
     (c .before .before .if2 .left) _ (c .before .next-number .ensures) (c .if3 .left) in
     omega arith
-
-add-n : tie.Need-add-n Inv-loop μ-loop
-add-n c = omega arith
-
-loop-less : tie.Need-loop-less Inv-loop μ-loop
-loop-less c = omega arith
 
 loop-again : tie.Need-loop-again Inv-loop μ-loop
 loop-again c =
@@ -75,14 +60,14 @@ walk-headers-spec =
     (tie.spec
     Inv-loop
     μ-loop
-    first-number-requires
+    (λ c κs. search needs)
     returns
     loop-holds
-    next-command-requires
-    next-number-requires
+    (λ c κs. omega arith)
+    (λ c κs. omega arith)
     add-p
-    add-n
-    loop-less
+    (λ c. omega arith)
+    (λ c. omega arith)
     loop-again
     returns-2
     returns-3)

@@ -5,9 +5,6 @@ use borrow.Author.Needs.{needs}
 use Rattle.session_record.proofs.remove_record.Statement.{statement}
 use Rattle.session_record.proofs.remove_record.Tie as tie
 
-vacant-requires : tie.Need-vacant-requires
-vacant-requires c κs = search needs
-
 returns : tie.Need-returns
 unfolding removedOf
 returns c = simp (c .if1 .taken, c .before .vacant .ensures)
@@ -17,4 +14,4 @@ unfolding removedOf
 returns-2 c = simp (c .if1 .left, c .before .vacant .ensures)
 
 pub remove-record-spec : {M : Type 1} → statement M
-remove-record-spec = tie.close (tie.spec vacant-requires returns returns-2)
+remove-record-spec = tie.close (tie.spec (λ c κs. search needs) returns returns-2)

@@ -7,11 +7,5 @@ use Rattle.session_record.proofs.wanted.Tie as tie
 returns : tie.Need-returns
 returns c = simp (c .before .before .if1 .taken, c .before .if2 .taken)
 
-returns-2 : tie.Need-returns-2
-returns-2 c = search needs
-
-returns-3 : tie.Need-returns-3
-returns-3 c = search needs
-
 pub wanted-spec : {M : Type 1} → statement M
-wanted-spec = tie.close (tie.spec returns returns-2 returns-3)
+wanted-spec = tie.close (tie.spec returns (λ c. search needs) (λ c. search needs))

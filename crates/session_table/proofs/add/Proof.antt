@@ -3,7 +3,6 @@
 use Rattle.session_table.proofs.Kit.{_≡_, refl, ℕ, Bool, true, false, List, [], _∷_, length, ltb, lit<, URA, fullShare, named, Val, vbool, SProp, ent, sep, emp, via, id⊢, fst∗, Lft, GName, Share, ftrue, flft, Memory, Routine, Heap, Calls, Loops, WpFn, Tables, Atoms, sem, Fun, givenOf, tables, tablesOf, Given, ‵, raw, _⊛_, ⋆, _$_, _∵_, !, qed, by, move, keep, drop, use1, use2, split, join, fsplit, fjoin, suffices, frame, done, whole, sub, look-in, look, init, stop, fld, from, load, lit, true-lit, false-lit, of-opd, bin, assigns, land, no-more, and-then, returns, enter, alloc1, alloc0, params1, pass1, pass0, FmC, fmOf, WpFn-mono, owns, Is, Boolean, bool-makes, uint-makes, uint-lawful, u8, RefT, now, sliceVal, MutSlice, ShrSlice, Room, finally, slice-vals, mut-slice-tells, shr-slice-tells, shr-slice-copy, plain, owned, nothing, Vals, onEntry, Meets, tripleOf, Contract, Triple, entered, cited, says, Stays, stay-none, stay-none-slice, gave-slice, walkOf, goes-none, goes-none-slice, goes-gave-slice, ends-at, walked, walk-meets, yes, u32, w32}
 use denote.Struct.Laws as LL
 use Rattle.session_record.specs.declared.Session.{Session}
-use Rattle.session_record.specs.declared.Changed.{Changed}
 use Rattle.session_record.specs.declared.Adding.{Adding}
 use Rattle.session_record.specs.Reading.{sessionOf}
 use Rattle.session_record.specs.Adds.{addingOf, AddsWith}
@@ -20,7 +19,7 @@ use Rattle.session_table.proofs.Values.{mach-t, changed-typed}
 use Rattle.session_table.proofs.Leaving.{leaves, holds}
 use Rattle.session_table.proofs.Operands.{local, reborrows}
 use Rattle.session_table.proofs.Said.{calls-said}
-use Rattle.session_table.proofs.Calls.{ref-at, lend, back, Finds, Gets, Puts, calls-find, calls-get, calls-put}
+use Rattle.session_table.proofs.Lending.{ref-at, lend, back, Finds, Gets, Puts, calls-find, calls-get, calls-put}
 use Rattle.session_table.proofs.find.Symbol as find-def
 use Rattle.session_table.proofs.find.Symbol.{name as #session-table·find}
 use Rattle.session_table.proofs.find.Met as find-thm

@@ -7,7 +7,7 @@ use Rattle.protocol.specs.SessionTable.{recordOf}
 use Rattle.session_table.specs.Reading.{tableOf}
 use Rattle.session_table.proofs.TableCalls.{taken}
 use Rattle.session_table.proofs.Walk.{R, mach, typed, record-owned}
-use Rattle.session_table.proofs.Calls.{ref-at, Shr, Finds, Gets, calls-find, calls-get}
+use Rattle.session_table.proofs.Lending.{ref-at, Shr, Finds, Gets, calls-find, calls-get}
 use Rattle.session_table.proofs.Leaving.{leaves, holds}
 use Rattle.session_table.proofs.Operands.{local}
 use Rattle.session_table.proofs.find.Symbol as find-def

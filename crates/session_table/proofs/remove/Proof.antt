@@ -3,7 +3,6 @@
 use Rattle.session_table.proofs.Kit.{_≡_, refl, ℕ, _<_, _^_, true, List, [], _∷_, length, URA, fullShare, named, w32, w64, Val, vint, SProp, ent, emp, via, id⊢, fst∗, Lft, GName, Share, ftrue, flft, Memory, Routine, Heap, Calls, Loops, WpFn, Tables, Atoms, Fun, givenOf, tables, tablesOf, Given, ‵, raw, _⊛_, ⋆, _$_, _∵_, !, qed, by, move, drop, use0, split, join, fsplit, fjoin, suffices, frame, done, whole, sub, look-in, look, init, stop, fld, from, load, true-lit, of-opd, assigns, land, no-more, and-then, returns, enter, alloc1, alloc0, params1, pass1, pass0, FmC, fmOf, WpFn-mono, owns, Is, uint-makes, uint-vals, uint-tells, uint-lawful, u64, u32, RefT, now, sliceVal, MutSlice, Room, finally, slice-vals, mut-slice-tells, plain, owned, nothing, Vals, onEntry, Meets, tripleOf, Contract, Triple, entered, cited, says, Stays, stay-none, gave-slice, walkOf, goes-none, goes-gave-slice, ends-at, walked, walk-meets, yes}
 use denote.Struct.Laws as LL
 use Rattle.session_record.specs.declared.Session.{Session}
-use Rattle.session_record.specs.declared.Changed.{Changed}
 use Rattle.session_record.specs.Contracts.{removedOf}
 use Rattle.session_record.proofs.Changed as Ch
 use Rattle.session_record.proofs.Changed.Laws as Ch′
@@ -16,7 +15,7 @@ use Rattle.protocol.specs.Contract.{Returns}
 use Rattle.session_table.specs.Reading.{tableOf}
 use Rattle.session_table.proofs.TableCalls.{removed-says}
 use Rattle.session_table.proofs.Said.{calls-said}
-use Rattle.session_table.proofs.Calls.{ref-at, lend, back, Finds, Gets, Puts, calls-find, calls-get, calls-put}
+use Rattle.session_table.proofs.Lending.{ref-at, lend, back, Finds, Gets, Puts, calls-find, calls-get, calls-put}
 use Rattle.session_table.proofs.find.Symbol as find-def
 use Rattle.session_table.proofs.find.Symbol.{name as #session-table·find}
 use Rattle.session_table.proofs.find.Met as find-thm

@@ -13,7 +13,7 @@ use Rattle.session_table.proofs.Leaving.{leaves, holds}
 use Rattle.session_table.proofs.Operands.{local, reborrows}
 use Rattle.session_table.specs.Reading.{tableOf}
 use Rattle.session_table.proofs.Said.{calls-said}
-use Rattle.session_table.proofs.Calls.{ref-at, lend, back, Finds, Gets, Puts, calls-find, calls-get, calls-put}
+use Rattle.session_table.proofs.Lending.{ref-at, lend, back, Finds, Gets, Puts, calls-find, calls-get, calls-put}
 use Rattle.session_table.proofs.find.Symbol as find-def
 use Rattle.session_table.proofs.find.Symbol.{name as #session-table·find}
 use Rattle.session_table.proofs.find.Met as find-thm

@@ -6,15 +6,6 @@ use borrow.Author.Needs.{needs}
 use Rattle.smb3seal.proofs.smb3seal_fold.Statement.{statement}
 use Rattle.smb3seal.proofs.smb3seal_fold.Tie as tie
 
-fold-requires : tie.Need-fold-requires
-fold-requires c κs = search needs
-
-number-requires : tie.Need-number-requires
-number-requires c κs = search needs
-
-same-length : tie.Need-same-length
-same-length c = search needs
-
 returns : tie.Need-returns
 returns c =
     let c5 = c .before .before .before .before .before in
@@ -26,4 +17,4 @@ returns c =
     )
 
 pub smb3seal-fold-spec : {M : Type 1} → statement M
-smb3seal-fold-spec = tie.close (tie.spec fold-requires number-requires same-length returns)
+smb3seal-fold-spec = tie.close (tie.spec (λ c κs. search needs) (λ c κs. search needs) (λ c. search needs) returns)

@@ -6,18 +6,6 @@ use borrow.Author.Needs.{needs}
 use Rattle.smb3seal.proofs.smb3seal_fold_response.Statement.{statement}
 use Rattle.smb3seal.proofs.smb3seal_fold_response.Tie as tie
 
-fold-response-requires : tie.Need-fold-response-requires
-fold-response-requires c κs = search needs
-
-folded-to-requires : tie.Need-folded-to-requires
-folded-to-requires c κs = search needs
-
-number-requires : tie.Need-number-requires
-number-requires c κs = search needs
-
-same-length : tie.Need-same-length
-same-length c = search needs
-
 returns : tie.Need-returns
 returns c =
     let c5 = c .before .before .before .before .before in
@@ -28,4 +16,4 @@ returns c =
 pub smb3seal-fold-response-spec : {M : Type 1} → statement M
 smb3seal-fold-response-spec =
     tie.close
-    (tie.spec fold-response-requires folded-to-requires number-requires same-length returns)
+    (tie.spec (λ c κs. search needs) (λ c κs. search needs) (λ c κs. search needs) (λ c. search needs) returns)

@@ -1,5 +1,5 @@
 -- Right because the tests pass one after the other, in the order of the list (Sealing).
-use mathlib.Core.Path.{sym, ap, _∙_}
+use mathlib.Core.Path.{sym, _∙_}
 use borrow.Author.Needs.{needs}
 use Rattle.protocol.proofs.First.{first-passed}
 use Rattle.connection.specs.Reading.{connectionOf}

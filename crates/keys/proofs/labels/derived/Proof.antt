@@ -6,12 +6,6 @@ use borrow.Author.Needs.{needs}
 use Rattle.keys.proofs.labels.derived.Statement.{statement}
 use Rattle.keys.proofs.labels.derived.Tie as tie
 
-keys-311-requires : tie.Need-keys-311-requires
-keys-311-requires c κs = search needs
-
-keys-300-requires : tie.Need-keys-300-requires
-keys-300-requires c κs = search needs
-
 returns : tie.Need-returns
 returns c =
     let a = c .before .before .before .before .args in
@@ -23,4 +17,4 @@ returns-2 c =
     c .keys-300 .ensures ∙ sym (derived-300 (a .dialect) (a .chain .now) (a .key .now) (c .before .if1 .left))
 
 pub derived-spec : {M : Type 1} → statement M
-derived-spec = tie.close (tie.spec keys-311-requires keys-300-requires returns returns-2)
+derived-spec = tie.close (tie.spec (λ c κs. search needs) (λ c κs. search needs) returns returns-2)

@@ -1,5 +1,5 @@
 -- Right because each line is the test of the list in the same order, after the number of derivation.
-use mathlib.Core.Path.{sym, _∙_}
+use mathlib.Core.Path.{_∙_}
 use borrow.Author.Needs.{needs}
 use borrow.Author.Tests.{eq-eqb, ne-eqb}
 use Rattle.session_record.proofs.AddingLaws.{later-is}
