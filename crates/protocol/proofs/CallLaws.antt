@@ -8,7 +8,8 @@ use Rattle.protocol.specs.Bytes.{Bytes}
 use Rattle.protocol.specs.Answer.{Answer, done, refused, answerNumber, isRefused, whenDone, Test, refuse_when_, firstOf, judge}
 use Rattle.protocol.specs.InnerHeader.{Envelope}
 use Rattle.protocol.specs.Compound.{walk}
-use Rattle.protocol.specs.Calls.{Call, Lent, Tests, carries, over, verdict, tests, effect, answer, left}
+use Rattle.protocol.specs.SessionTable.{Session, changeRecord, counterStep}
+use Rattle.protocol.specs.Calls.{Call, stepping, Lent, onlyTable, Tests, carries, over, verdict, tests, effect, answer, left}
 use Rattle.protocol.specs.Suite.{suite}
 use Rattle.protocol.specs.Contract.{Makes, Returns}
 use Rattle.protocol.proofs.AnswerLaws.{when-done, when-refused, after-nothing}
@@ -60,3 +61,8 @@ module _ (c : Call) (w : Lent) where
 
     pub lines-return-done : positive ts ≡ true → n ≡ 0 → (w′ : Lent) → w′ ≡ effect suite c w → Returns c w n w′
     lines-return-done p z w′ e = record { number = z ∙ sym (ap answerNumber (lines-done p z)); leaves = e ∙ sym (left-done k (lines-done p z)) }
+
+-- the counter step by itself, as the function over the table says it
+pub step-left : (i by : ℕ) (t : List Session) → left suite (stepping i by) (onlyTable t) ≡ onlyTable (changeRecord (counterStep by) i t)
+unfolding tests effect
+step-left i by t = refl
