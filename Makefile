@@ -3,7 +3,8 @@
 # make examples    the examples and the demo, run and compared
 # make packaging   headers, symbols, shared object, install and uninstall, checked
 # make rust        the tests of the Rust wrapper
-# make test        the whole gate: outside tests, then rt ci
+# make test        the whole gate: rt ci, then the outside tests
+# make consistency pages, lists and vectors agree with each other and with the tree: seconds
 # make bench       sealing, opening, derivation and folding beside other libraries; bench-docs: and the figures into docs/
 # make fuzz, samba, coverage   on demand: the fuzzer for a minute; Samba through the library; what the tests execute
 # make install, uninstall (PREFIX, DESTDIR), clean
@@ -12,7 +13,7 @@ CFLAGS ?= -O2 -g
 WARNINGS = -std=c11 -Wall -Wextra -Wpedantic -Werror
 SANITIZE = -fsanitize=address,undefined -fno-sanitize-recover=all
 ARCHIVE = target/staticlib/libsmb3seal.a
-PRIMITIVES = target/staticlib/libprimitives.a
+PRIMITIVES = target/staticlib/libtest_primitives.a
 BUILD = target/c
 
 all: dist/libsmb3seal.a dist/smb3seal.h dist/smb3seal_text.h
@@ -23,7 +24,7 @@ RATTLE := crates.txt $(shell find crates -name '*.rt' -o -name '*.antt')
 
 target/staticlib/lib%.a: $(RATTLE)
 	@mkdir -p target
-	@echo "proving and building $@ (from nothing: some minutes)"
+	@echo "proving and building $@ (from nothing some minutes, after rt ci seconds)"
 	@rt staticlib $* > target/$*.log 2>&1 || { cat target/$*.log; exit 1; }
 	@touch $@
 
@@ -39,8 +40,9 @@ $(BUILD)/smb3_vectors.h: scripts/c-vectors vectors/smb3.json
 	@mkdir -p $(BUILD)
 	scripts/c-vectors $@
 
+# What each target needs is installed first, once: NO_SETUP=1 says that it was.
 setup-%:
-	@scripts/setup $*
+	@$(if $(NO_SETUP),true,scripts/setup $*)
 
 include examples/examples.mk
 include packaging/packaging.mk
@@ -48,8 +50,8 @@ include tests/tests.mk
 include bench/bench.mk
 
 # The last line is that of rt ci: 'N passed, 0 failed'.
-test: outside
-	@rt ci
+test:
+	@scripts/gate
 
 clean:
 	rm -rf target dist

@@ -12,7 +12,7 @@ $(BUILD)/examples/%_sanitized: examples/%.c $(EXAMPLE_INPUTS)
 	@mkdir -p $(@D)
 	$(CC) $(WARNINGS) $(CFLAGS) $(SANITIZE) -Iinclude -I$(BUILD) $< $(ARCHIVE) -o $@
 
-demo: setup-build
+demo: setup-demo
 	@$(MAKE) --silent --no-print-directory $(BUILD)/examples/demo
 	@$(BUILD)/examples/demo
 

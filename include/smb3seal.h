@@ -98,10 +98,11 @@ extern "C" {
 #define SMB3SEAL_TOO_LONG 3      /* more than 1,048,576 bytes behind the transform header */
 #define SMB3SEAL_NOT_TRANSFORM 4 /* the message does not begin FD 53 4D 42: it is not sealed, so the program should not open it */
 #define SMB3SEAL_BAD_FLAGS 5     /* the transform header's Flags are not 0x0001 */
-#define SMB3SEAL_OTHER_SESSION 6 /* the transform header's SessionId is not session_id; to find no such session is the same case */
+#define SMB3SEAL_OTHER_SESSION 6 /* the transform header's SessionId is not the session's; to find no such session is the same case */
 
 /* 7 and 8 belong to calls with a session table. No function here answers them. */
 
+/* The message under its key. */
 #define SMB3SEAL_BAD_TAG 9   /* the tag differs: the message, its header or the key is not the sender's */
 #define SMB3SEAL_BAD_SIZE 10 /* OriginalMessageSize differs from the number of bytes behind the header */
 
@@ -113,7 +114,7 @@ extern "C" {
 #define SMB3SEAL_NEXT_OUTSIDE 15    /* NextCommand is under 64, or the next header is not wholly inside */
 #define SMB3SEAL_NEXT_UNALIGNED 16  /* NextCommand is not a multiple of 8 */
 
-/* Sealing. End the session, or authenticate it again: new keys start at counter 0. */
+/* Sealing. End the session and set up a new one, with new keys and counter 0. A reauthentication does not promise new keys. */
 #define SMB3SEAL_COUNTER_USED_UP 17 /* the counter is 2^64 - 1: this key must not seal any more */
 
 /* Deriving. Do not finish the session's setup; a client fails the logon, a server disconnects. */

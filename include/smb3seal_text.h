@@ -25,7 +25,7 @@ static inline const char *smb3seal_text(uint32_t number)
     case SMB3SEAL_INNER_SESSION: return "an inner header names another session";
     case SMB3SEAL_NEXT_OUTSIDE: return "NextCommand points into its own header or past the end";
     case SMB3SEAL_NEXT_UNALIGNED: return "NextCommand is not a multiple of 8";
-    case SMB3SEAL_COUNTER_USED_UP: return "the send counter is used up";
+    case SMB3SEAL_COUNTER_USED_UP: return "the send counter is used up: end the session and set up a new one";
     case SMB3SEAL_UNKNOWN_DIALECT: return "the dialect is none of 3.0, 3.0.2 and 3.1.1";
     case SMB3SEAL_NO_KEY_MATERIAL: return "the key material is empty";
     case SMB3SEAL_FOLD_LENGTH: return "a message to fold has under 64 or over 1,048,576 bytes";

@@ -26,9 +26,9 @@ uninstall:
 packaging: setup-build all
 	@packaging/check-headers include/smb3seal.h include/smb3seal_text.h
 	@packaging/check-archive dist/libsmb3seal.a include/smb3seal.h
-	@packaging/check-install
+	@scripts/test-with "install and uninstall" pkgconf -- packaging/check-install
 
 rust: all
-	@packaging/check-rust
+	@scripts/test-with "the Rust wrapper" cargo -- packaging/check-rust
 
 .PHONY: install uninstall packaging rust

@@ -1,5 +1,5 @@
 /*
- * The rules of document 01 a second time, on top of OpenSSL: written from the papers, and sharing nothing with the library but this
+ * The rules of the rules a second time, on top of OpenSSL: written from the papers, and sharing nothing with the library but this
  * shape of the five functions. include/smb3seal.h says what they take.
  */
 #ifndef MODEL_H

@@ -1,6 +1,7 @@
 /*
- * Each number, and which comes first. Every set of faults is made at once and must get the number of the first of them in the order
- * of document 01. Then whole fields: every dialect, every cipher, every value of the transform header's Flags.
+ * Each number but 3 (lengths_test.c), and which comes first. Every set of faults is made at once and must get the number of the
+ * first of them in the order of the rules. Then whole fields: every dialect, every cipher, every value of the transform
+ * header's Flags.
  */
 #include <string.h>
 
@@ -80,7 +81,7 @@ static void every_set(enum function function, uint16_t cipher, int where)
     for (uint32_t set = 0; set < (uint32_t)1 << count; set++) one_set(function, cipher, numbers, count, set);
 }
 
-/* P1 to P3 of document 01. */
+/* P1 to P3 of the rules. */
 static void sums(uint16_t cipher)
 {
     struct call c = plain_call(OPEN, cipher, 0);

@@ -1,6 +1,6 @@
 /*
- * The primitives as C functions, from the crate `primitives`: what the tests and benchmarks of this repository link
- * (target/staticlib/libprimitives.a). Not part of the library's interface.
+ * The primitives as C functions, from the crate `test_primitives`: what the tests and benchmarks of this repository link
+ * (target/staticlib/libtest_primitives.a). Not part of the library's interface.
  *
  * Each returns 0, or 40 where a buffer has not the length asked for; then no byte is changed. Buffers do not overlap.
  */

@@ -1,6 +1,6 @@
 /*
  * Random calls of the five functions, by the library and by the model: the same answers, and the same bytes and numbers in all that
- * was lent. At the end every number that a function can answer must have come up.
+ * was lent. At the end every number that a function can answer must have come up, but 3: lengths_test.c has it.
  *
  * Usage: random_test [SEED [CASES [FIRST]]]: a case is made again by its number, with CASES 1.
  */
@@ -28,7 +28,7 @@ int main(int argc, char **argv)
         begin_case(i);
         struct call c = generate();
         uint32_t r = compare(&c, &heap);
-        if (r >= NUMBERS) fail("a number that document 01 does not have", r);
+        if (r >= NUMBERS) fail("a number that the rules does not have", r);
         seen[c.function][r]++;
     }
     for (size_t i = 0; i < COUNT(answers) && cases >= ENOUGH; i++)

@@ -1,4 +1,5 @@
-# The outside tests: what `make test` runs before rt ci. `outside` is their list.
+# The outside tests: what `make test` runs after rt ci, each also by its own name. A test is skipped with a word where a package that it
+# needs is missing.
 
 TEST_HEADERS = $(wildcard tests/*.h) include/smb3seal.h $(BUILD)/smb3_vectors.h
 SHARED = check openssl_aead model call messages generate
@@ -35,19 +36,50 @@ $(MUTANTS): $(BUILD)/mutants/%: $(BUILD)/plain/%.o $(SHARED:%=$(BUILD)/plain/%.o
 	$(CC) $(FIVE:%=-Wl,--wrap=smb3seal_%) $^ -lcrypto -o $@
 
 outside: setup-test
-	@$(MAKE) --no-print-directory $(PROGRAMS) $(MUTANTS) $(BUILD)/plain/capture
-	scripts/vectors --check
-	scripts/exchange --check
-	scripts/docs-check
-	scripts/crates-picture --check
-	scripts/archive-symbols $(PRIMITIVES)
-	@$(MAKE) --no-print-directory examples packaging rust
-	for t in $(PROGRAMS); do $$t || exit 1; done
-	for t in vectors_test walk_test lengths_test "random_test 1 $(VALGRIND_CASES)"; do \
+	@$(MAKE) --silent --no-print-directory NO_SETUP=1 outside-tests
+
+outside-tests: consistency examples packaging rust symbols programs valgrind mutants tshark
+
+# Pages, lists and vectors agree with each other and with the tree.
+consistency:
+	@rt fmt --check
+	@scripts/vectors --check
+	@scripts/test-with "the file that the exchange must write" python3-cryptography -- scripts/exchange --check
+	@scripts/numbers --check
+	@scripts/docs-check
+	@scripts/crates-picture --check
+
+symbols: $(PRIMITIVES)
+	@scripts/archive-symbols $(PRIMITIVES)
+
+# NAME is run-NAME where the packages that it needs are here.
+AGAIN = $(MAKE) --silent --no-print-directory
+
+programs:
+	@scripts/test-with "the C tests" libssl-dev -- $(AGAIN) run-programs
+
+# Under the sanitizers, other random calls than as it is, and fewer.
+run-programs: $(PROGRAMS)
+	@for t in $(filter-out %sanitized/random_test,$(PROGRAMS)) "$(BUILD)/sanitized/random_test 2 20000"; do $$t || exit 1; done
+
+valgrind:
+	@scripts/test-with "the C tests under valgrind" libssl-dev valgrind -- $(AGAIN) run-valgrind
+
+run-valgrind: $(addprefix $(BUILD)/plain/,vectors_test walk_test lengths_test random_test)
+	@for t in vectors_test walk_test lengths_test "random_test 1 $(VALGRIND_CASES)"; do \
 	    printf 'valgrind '; $(VALGRIND) $(BUILD)/plain/$$t || exit 1; done
-	scripts/mutants $(BUILD)/mutants tests/mutants.c
-	scripts/tshark-check $(BUILD)/plain/capture $(BUILD)/tshark
-	rt fmt --check
+
+mutants:
+	@scripts/test-with "the wrong libraries" libssl-dev -- $(AGAIN) run-mutants
+
+run-mutants: $(MUTANTS)
+	@scripts/mutants $(BUILD)/mutants tests/mutants.c
+
+tshark:
+	@scripts/test-with "tshark on a capture" libssl-dev tshark -- $(AGAIN) run-tshark
+
+run-tshark: $(BUILD)/plain/capture
+	@scripts/tshark-check $(BUILD)/plain/capture $(BUILD)/tshark
 
 # A bounded run of the fuzzer, on demand. What it finds goes to $(BUILD)/fuzz; the inputs that it keeps, to $(BUILD)/fuzz/inputs.
 FUZZ_SECONDS ?= 60
@@ -76,4 +108,5 @@ coverage: setup-test
 	scripts/archive-coverage $(ARCHIVE) $(BUILD)/coverage $(BUILD)/plain/vectors_test $(BUILD)/plain/lengths_test \
 	    "$(BUILD)/plain/random_test 1 $(VALGRIND_CASES)"
 
-.PHONY: outside fuzz samba coverage
+.PHONY: outside outside-tests consistency symbols programs valgrind mutants tshark run-programs run-valgrind run-mutants run-tshark
+.PHONY: fuzz samba coverage

@@ -37,7 +37,7 @@ static void walk(size_t n, const struct header *headers, size_t count, uint32_t 
     }
 }
 
-/* P5 to P11 of document 01. */
+/* P5 to P11 of the rules. */
 static void sums(void)
 {
     struct header h[] = {{0, 0, 0, SESSION}, {64, 4, 0, 9}};

@@ -42,7 +42,7 @@ refusals! {
     INNER_SESSION = 14, "an inner header names another session";
     NEXT_OUTSIDE = 15, "NextCommand points into its own header or past the end";
     NEXT_UNALIGNED = 16, "NextCommand is not a multiple of 8";
-    COUNTER_USED_UP = 17, "the send counter is used up";
+    COUNTER_USED_UP = 17, "the send counter is used up: end the session and set up a new one";
     UNKNOWN_DIALECT = 18, "the dialect is none of 3.0, 3.0.2 and 3.1.1";
     NO_KEY_MATERIAL = 19, "the key material is empty";
     FOLD_LENGTH = 23, "a message to fold has under 64 or over 1,048,576 bytes";

@@ -1,5 +1,2 @@
-pub mod WordLaws
-pub mod TableLaws
-pub mod CipherLaws
-pub mod ExpansionLaws
-pub mod Lengths
+-- The laws of FIPS 197's definitions, for those who call this crate.
+pub use Rattle.rijndael.proofs.Lengths

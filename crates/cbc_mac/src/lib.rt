@@ -1,25 +1,24 @@
 // The cipher block chaining message authentication code (SP 800-38C, 6.1) with AES.
 ghost use mathlib.Core.Path.{_≡_};
-ghost use Prim.Native.Nat.{_<_};
 ghost use lib.ListN.{length};
-ghost use Rattle.aes.specs.Words.{SubMixTable};
-ghost use Rattle.ctr.specs.BlockCipher.{blockCipher};
+ghost use Rattle.aes.specs.Tables.{SubMixTable};
+ghost use Rattle.aes.specs.BlockCipher.{blockCipher};
 ghost use Rattle.octets.specs.Blocks.{blockCount};
 ghost use Rattle.octets.specs.Xor.{xor};
 ghost use Rattle.cbc_mac.specs.CbcMac.{cbcMac};
 
 // The value after y, with the block x.
-fn next(t: &[u32; 256], keys: &[[u8; 16]], y: [u8; 16], x: [u8; 16]) -> [u8; 16]
-    requires { ⌜ (1 < length (now keys)) × SubMixTable (now t) ⌝ }
-    ensures { λ r. ⌜ r ≡ blockCipher (now (keys .entry)) (xor y x) ⌝ }
+fn next(t: &[u32; 256], keys: [[u8; 16]; 11], y: [u8; 16], x: [u8; 16]) -> [u8; 16]
+    requires { ⌜ SubMixTable (now t) ⌝ }
+    ensures { λ r. ⌜ r ≡ blockCipher keys (xor y x) ⌝ }
 {
-    aes::encrypt_with(t, keys, runs::xor_16(y, x))
+    aes::encrypt_block(t, keys, runs::xor_16(y, x))
 }
 
 // The chain from y over the blocks of s, the last filled with zeros.
-pub fn chain(t: &[u32; 256], keys: &[[u8; 16]], y: [u8; 16], s: &[u8]) -> [u8; 16]
-    requires { ⌜ (1 < length (now keys)) × SubMixTable (now t) ⌝ }
-    ensures { λ r. ⌜ r ≡ cbcMac (blockCipher (now (keys .entry))) y (now (s .entry)) (blockCount (length (now (s .entry)))) ⌝ }
+pub fn chain(t: &[u32; 256], keys: [[u8; 16]; 11], y: [u8; 16], s: &[u8]) -> [u8; 16]
+    requires { ⌜ SubMixTable (now t) ⌝ }
+    ensures { λ r. ⌜ r ≡ cbcMac (blockCipher keys) y (now (s .entry)) (blockCount (length (now (s .entry)))) ⌝ }
 {
     let mut z = y;
     let mut at: usize = 0;

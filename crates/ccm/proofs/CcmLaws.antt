@@ -1,8 +1,7 @@
 -- Laws of CCM that the layer above cites: lengths, and that decryption gives back what was encrypted.
 -- Assumes nothing.
-use mathlib.Core.Bool.{Bool, true, false, cond}
 use mathlib.Core.List.{List}
-use mathlib.Core.Option.{none, some}
+use mathlib.Core.Option.{some}
 use mathlib.Core.Path.{_≡_, refl, sym, ap, _∙_}
 use Prim.Native.Nat.{ℕ, zero, suc, _+_, _≤_}
 use native.Mathlib.Omega.{arith}
@@ -10,17 +9,13 @@ use lib.ListN.{length, replicate, take}
 use lib.Seq.{length-take-le}
 use Rattle.octets.specs.Blocks.{overBlocks}
 use Rattle.octets.specs.Same.{sameBytes}
+use Rattle.octets.proofs.MaybeLaws.{given-by}
 use Rattle.octets.proofs.SameLaws.{same-self}
 use Rattle.octets.proofs.XorWith.{length-xor}
 use Rattle.cbc_mac.specs.CbcMac.{cbcMac}
 use Rattle.ctr.proofs.CtrLaws.{length-ctr, ctr-twice}
-use Rattle.ccm.specs.Formatting.{formatted, counterBlock}
+use Rattle.ccm_formatting.specs.Formatting.{formatted, counterBlock}
 use Rattle.ccm.specs.General.{mac, tag, encrypt, decrypt}
-
--- the text that a decryption gives
-given-by : (b : Bool) (p q : List ℕ) → cond b (some p) none ≡ some q → p ≡ q
-given-by true p q e = cc
-given-by false p q e = absurd (let z : _≡_ {A = ℕ} 0 1 = cc in omega arith)
 
 module _ (E : List ℕ → List ℕ) where
   module _ (blocks : (x : List ℕ) → length (E x) ≡ 16) where
@@ -59,5 +54,5 @@ module _ (E : List ℕ → List ℕ) where
       pub encrypts-again : (received body text : List ℕ) → decrypt E q t nonce aad received body ≡ some text → encrypt E q nonce text ≡ body
       unfolding decrypt
       encrypts-again received body text e =
-          ap (encrypt E q nonce) (sym (given-by (sameBytes received (tag E q t nonce aad (encrypt E q nonce body))) (encrypt E q nonce body) text e))
+          ap (encrypt E q nonce) (sym (given-by (sameBytes received (tag E q t nonce aad (encrypt E q nonce body))) (encrypt E q nonce body) text e .1))
           ∙ encrypt-twice body

@@ -1,4 +1,3 @@
 pub mod CcmLaws
-pub mod Formatted
 pub mod Tag
 pub mod Opening

@@ -5,7 +5,7 @@ use mathlib.Core.List.{List}
 use mathlib.Core.Path.{_≡_, ap, _∙_}
 use Prim.Native.Nat.{ℕ}
 use Rattle.octets.specs.Same.{sameBytes}
-use Rattle.ccm.specs.Calls.{Opened}
+use Rattle.ccm.specs.Contracts.{Opened}
 use Rattle.ccm.specs.Ccm.{encrypt, tag}
 use Rattle.ccm.specs.General as general
 use Rattle.ccm.proofs.CcmLaws.{encrypt-twice}

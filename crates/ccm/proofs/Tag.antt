@@ -11,9 +11,9 @@ use Rattle.octets.specs.Numbers.{toBigEndian}
 use Rattle.octets.specs.Xor.{xor}
 use Rattle.octets.proofs.NumberLaws.{length-toBigEndian}
 use Rattle.cbc_mac.specs.CbcMac.{cbcMac}
-use Rattle.ccm.specs.Formatting.{flags, firstBlock, associated, formatted, counterBlock}
+use Rattle.ccm_formatting.specs.Formatting.{flags, firstBlock, associated, formatted, counterBlock}
 use Rattle.ccm.specs.General.{mac, tag}
-use Rattle.ccm.proofs.Formatted.{first-flags, over-formatted}
+use Rattle.ccm_formatting.proofs.Formatted.{first-flags, over-formatted}
 use Rattle.ccm.proofs.CcmLaws.{length-mac}
 
 module _ (E : List ℕ → List ℕ) (nonce aad text : List ℕ) (hn : length nonce ≡ 11) (ha : length aad ≡ 32) where

@@ -10,7 +10,7 @@ use Rattle.octets.specs.Same.{sameBytes}
 use Rattle.octets.specs.Xor.{xor}
 use Rattle.cbc_mac.specs.CbcMac.{cbcMac}
 use Rattle.ctr.specs.Ctr.{ctr}
-use Rattle.ccm.specs.Formatting.{formatted, counterBlock}
+use Rattle.ccm_formatting.specs.Formatting.{formatted, counterBlock}
 
 -- 6.1, steps 1 to 3: Y_r
 unfoldable pub mac : (List ℕ → List ℕ) → ℕ → ℕ → List ℕ → List ℕ → List ℕ → List ℕ

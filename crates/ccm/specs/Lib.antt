@@ -1,4 +1,4 @@
-pub mod Formatting
+pub use Rattle.ccm_formatting.specs.Formatting
 pub mod General
 pub mod Ccm
-pub mod Calls
+pub mod Contracts

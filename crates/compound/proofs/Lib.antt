@@ -1,3 +1,2 @@
-pub mod Magic
-pub mod TestLaws
+pub mod RuleLaws
 pub mod WalkLaws

@@ -1,18 +1,10 @@
-// Fields of the inner header at place p (MS-SMB2 2.2.1.2).
+// Fields of the inner header at place p (MS-SMB2 2.2.1.2), which is wholly inside.
 use little_endian::u32_at;
 use little_endian::u64_at;
 ghost use mathlib.Core.Path.{_≡_};
-ghost use Prim.Native.Nat.{_+_, _≤_, _<_, _^_};
+ghost use Prim.Native.Nat.{_+_, _≤_};
 ghost use lib.ListN.{length};
-ghost use Rattle.protocol.specs.CompoundWalk.{isInnerHeader, isRelated, nextCommand, innerSessionId};
-
-// FE, then SMB.
-pub fn is_header(m: &[u8], p: usize) -> bool
-    requires { ⌜ p + 64 ≤ length (now m) ⌝ }
-    ensures { λ r. ⌜ r ≡ isInnerHeader (now (m .entry)) p ⌝ }
-{
-    (m[p] == 0xFE) & ((m[p + 1] == 0x53) & ((m[p + 2] == 0x4D) & (m[p + 3] == 0x42)))
-}
+ghost use Rattle.protocol.specs.InnerHeader.{isRelated, nextCommand, innerSessionId};
 
 pub fn is_related(m: &[u8], p: usize) -> bool
     requires { ⌜ p + 64 ≤ length (now m) ⌝ }

@@ -1,2 +1,1 @@
 pub mod CtrLaws
-pub mod TwoRuns

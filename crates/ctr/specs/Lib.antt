@@ -1,2 +1,2 @@
 pub mod Ctr
-pub mod BlockCipher
+pub use Rattle.aes.specs.BlockCipher

@@ -3,9 +3,9 @@ ghost use mathlib.Core.Path.{_≡_};
 ghost use mathlib.Core.List.{_++_};
 ghost use Prim.Native.Nat.{_+_, _<_, _^_};
 ghost use lib.ListN.{length};
-ghost use Rattle.aes.specs.Words.{SubMixTable};
+ghost use Rattle.aes.specs.Tables.{SubMixTable};
 ghost use Rattle.octets.specs.Numbers.{toBigEndian};
-ghost use Rattle.ctr.specs.BlockCipher.{blockCipher};
+ghost use Rattle.aes.specs.BlockCipher.{blockCipher};
 ghost use Rattle.ctr.specs.Ctr.{ctr, counterBlocks};
 
 // The counter block of number n.
@@ -20,9 +20,9 @@ pub fn counter_block(prefix: [u8; 12], n: u32) -> [u8; 16]
 }
 
 // Xors the text with the key stream whose first counter is `first`.
-pub fn apply(t: &[u32; 256], keys: &[[u8; 16]], prefix: [u8; 12], first: u32, text: &mut [u8])
-    requires { ⌜ (1 < length (now keys)) × SubMixTable (now t) × (first + length (now text) < 2 ^ 32) ⌝ }
-    ensures { λ _. ⌜ now (text .exit) ≡ ctr (blockCipher (now (keys .entry))) (counterBlocks prefix first) (now (text .entry)) ⌝ }
+pub fn apply(t: &[u32; 256], keys: [[u8; 16]; 11], prefix: [u8; 12], first: u32, text: &mut [u8])
+    requires { ⌜ SubMixTable (now t) × (first + length (now text) < 2 ^ 32) ⌝ }
+    ensures { λ _. ⌜ now (text .exit) ≡ ctr (blockCipher keys) (counterBlocks prefix first) (now (text .entry)) ⌝ }
 {
     let mut i: usize = 0;
     let mut n = first;

@@ -8,196 +8,223 @@ use mathlib.Core.Option.{Option, none, some, Option·getD}
 use Prim.Native.Nat.{ℕ}
 use native.Mathlib.Omega.{arith}
 use borrow.Author.Tests.{leb-false, lt-leb, ltb-false, le-ltb, eqb-true, eq-eqb, eqb-false, ne-eqb, not-true, not-false}
-use lib.Dec.{eqb}
+use lib.Dec.{eqb, leb, ltb}
 use lib.ListN.{length, take}
 use Rattle.octets.specs.Maybe.{isSome}
 use Rattle.octets.specs.Same.{sameBytes}
 use Rattle.octets.proofs.SameLaws.{same-self, same-equal}
 use Rattle.protocol.specs.Bytes.{Bytes}
 use Rattle.protocol.specs.Answer.{Test}
-use Rattle.protocol.specs.Keys.{knownDialect}
-use Rattle.protocol.specs.TransformHeader.{protocolId, inner, originalMessageSize, flagsOf, sessionIdOf}
-use Rattle.protocol.specs.SessionTable.{Session}
-use Rattle.protocol.specs.UnderKey.{Protection, encrypts, cipherUsed, keyLengthTests, openTests, idTests, tagTests, plaintextUnder}
-use Rattle.protocol.specs.Transform.{Connection, openingKey, recordTests, plaintext}
+use Rattle.protocol.specs.Connection.{Connection, knownDialect, encrypts, cipherUsed}
+use Rattle.protocol.specs.TransformHeader.{headerOf, protocolId, inner, originalMessageSize, flagsOf, sessionIdOf}
+use Rattle.protocol.specs.SessionTable.{Session, openingKey}
+use Rattle.protocol.specs.Transform.{Primitives, plaintextUnder}
+use Rattle.protocol.specs.Calls.{openingUnder, Lent, keyTests, messageTests, headerTests, recordTests, textTests, openTests, plaintext, tests}
 use Rattle.protocol.specs.Suite.{suite, ciphers}
-use Rattle.protocol.proofs.Judging.{NoneApplies}
+use Rattle.protocol.proofs.Judging.{line}
+use Rattle.demands.specs.Lines.{None, no-line}
 use Rattle.demands.specs.Walk.{Walked}
 use Rattle.demands.specs.Opening.{Encrypts, HeaderChecks, Carries, OpensUnderKey, OpensWithRecord}
-use Rattle.demands.proofs.BoolLaws.{and-true, both, or-true, or-left, or-right, or-false, neither}
+use Rattle.octets.proofs.BoolLaws.{and-true, both, or-true, or-left, or-right, or-false, neither}
+use Rattle.demands.proofs.LineLaws.{none-applies, past-line, past-part}
 use Rattle.demands.proofs.Carrying.{text-tag, text-ciphertext, plaintext-of}
 
 -- ---- number 1
 
-module _ (c : Protection) where
-  known-says : knownDialect (c .dialect) ≡ true → (c .dialect ≡ 0x0300) ⊎ ((c .dialect ≡ 0x0302) ⊎ (c .dialect ≡ 0x0311))
-  known-says e = go (or-true (eqb (c .dialect) 0x0300 || eqb (c .dialect) 0x0302) (eqb (c .dialect) 0x0311) e)
+module _ (c : Connection) where
+  abbrev dialect : ℕ
+  dialect = c .dialect
+
+  abbrev cipher : ℕ
+  cipher = c .cipher
+
+  abbrev Known : Type 0
+  Known = (dialect ≡ 0x0300) ⊎ ((dialect ≡ 0x0302) ⊎ (dialect ≡ 0x0311))
+
+  abbrev Fits : Type 0
+  Fits = (cipher ≡ 1) ⊎ (cipher ≡ 2)
+
+  known-says : knownDialect dialect ≡ true → Known
+  known-says e = go (or-true (eqb dialect 0x0300 || eqb dialect 0x0302) (eqb dialect 0x0311) e)
     where
-      front : (eqb (c .dialect) 0x0300 ≡ true) ⊎ (eqb (c .dialect) 0x0302 ≡ true) → (c .dialect ≡ 0x0300) ⊎ ((c .dialect ≡ 0x0302) ⊎ (c .dialect ≡ 0x0311))
-      front (inl p) = inl (eqb-true (c .dialect) 0x0300 p)
-      front (inr p) = inr (inl (eqb-true (c .dialect) 0x0302 p))
+      front : (eqb dialect 0x0300 ≡ true) ⊎ (eqb dialect 0x0302 ≡ true) → Known
+      front (inl p) = inl (eqb-true dialect 0x0300 p)
+      front (inr p) = inr (inl (eqb-true dialect 0x0302 p))
 
-      go : ((eqb (c .dialect) 0x0300 || eqb (c .dialect) 0x0302) ≡ true) ⊎ (eqb (c .dialect) 0x0311 ≡ true) → (c .dialect ≡ 0x0300) ⊎ ((c .dialect ≡ 0x0302) ⊎ (c .dialect ≡ 0x0311))
-      go (inl p) = front (or-true (eqb (c .dialect) 0x0300) (eqb (c .dialect) 0x0302) p)
-      go (inr p) = inr (inr (eqb-true (c .dialect) 0x0311 p))
+      go : ((eqb dialect 0x0300 || eqb dialect 0x0302) ≡ true) ⊎ (eqb dialect 0x0311 ≡ true) → Known
+      go (inl p) = front (or-true (eqb dialect 0x0300) (eqb dialect 0x0302) p)
+      go (inr p) = inr (inr (eqb-true dialect 0x0311 p))
 
-  says-known : (c .dialect ≡ 0x0300) ⊎ ((c .dialect ≡ 0x0302) ⊎ (c .dialect ≡ 0x0311)) → knownDialect (c .dialect) ≡ true
-  says-known (inl p) = or-left (eqb (c .dialect) 0x0300 || eqb (c .dialect) 0x0302) (eqb (c .dialect) 0x0311) (or-left (eqb (c .dialect) 0x0300) (eqb (c .dialect) 0x0302) (eq-eqb (c .dialect) 0x0300 p))
-  says-known (inr (inl p)) = or-left (eqb (c .dialect) 0x0300 || eqb (c .dialect) 0x0302) (eqb (c .dialect) 0x0311) (or-right (eqb (c .dialect) 0x0300) (eqb (c .dialect) 0x0302) (eq-eqb (c .dialect) 0x0302 p))
-  says-known (inr (inr p)) = or-right (eqb (c .dialect) 0x0300 || eqb (c .dialect) 0x0302) (eqb (c .dialect) 0x0311) (eq-eqb (c .dialect) 0x0311 p)
+  says-known : Known → knownDialect dialect ≡ true
+  says-known (inl p) = or-left _ (eqb dialect 0x0311) (or-left _ (eqb dialect 0x0302) (eq-eqb dialect 0x0300 p))
+  says-known (inr (inl p)) = or-left _ (eqb dialect 0x0311) (or-right (eqb dialect 0x0300) _ (eq-eqb dialect 0x0302 p))
+  says-known (inr (inr p)) = or-right (eqb dialect 0x0300 || eqb dialect 0x0302) _ (eq-eqb dialect 0x0311 p)
 
-  fits-says : (not (eqb (c .dialect) 0x0311) || eqb (c .cipher) 1 || eqb (c .cipher) 2) ≡ true → c .dialect ≡ 0x0311 → (c .cipher ≡ 1) ⊎ (c .cipher ≡ 2)
-  fits-says e d = go (or-true (not (eqb (c .dialect) 0x0311) || eqb (c .cipher) 1) (eqb (c .cipher) 2) e)
+  fits-says : (not (eqb dialect 0x0311) || eqb cipher 1 || eqb cipher 2) ≡ true → dialect ≡ 0x0311 → Fits
+  fits-says e d = go (or-true (not (eqb dialect 0x0311) || eqb cipher 1) (eqb cipher 2) e)
     where
-      front : (not (eqb (c .dialect) 0x0311) ≡ true) ⊎ (eqb (c .cipher) 1 ≡ true) → (c .cipher ≡ 1) ⊎ (c .cipher ≡ 2)
-      front (inl p) = absurd (eqb-false (c .dialect) 0x0311 (not-true (eqb (c .dialect) 0x0311) p) d)
-      front (inr p) = inl (eqb-true (c .cipher) 1 p)
+      front : (not (eqb dialect 0x0311) ≡ true) ⊎ (eqb cipher 1 ≡ true) → Fits
+      front (inl p) = absurd (eqb-false dialect 0x0311 (not-true (eqb dialect 0x0311) p) d)
+      front (inr p) = inl (eqb-true cipher 1 p)
 
-      go : ((not (eqb (c .dialect) 0x0311) || eqb (c .cipher) 1) ≡ true) ⊎ (eqb (c .cipher) 2 ≡ true) → (c .cipher ≡ 1) ⊎ (c .cipher ≡ 2)
-      go (inl p) = front (or-true (not (eqb (c .dialect) 0x0311)) (eqb (c .cipher) 1) p)
-      go (inr p) = inr (eqb-true (c .cipher) 2 p)
+      go : ((not (eqb dialect 0x0311) || eqb cipher 1) ≡ true) ⊎ (eqb cipher 2 ≡ true) → Fits
+      go (inl p) = front (or-true (not (eqb dialect 0x0311)) (eqb cipher 1) p)
+      go (inr p) = inr (eqb-true cipher 2 p)
 
-  says-fits : (c .dialect ≡ 0x0311 → (c .cipher ≡ 1) ⊎ (c .cipher ≡ 2)) → (not (eqb (c .dialect) 0x0311) || eqb (c .cipher) 1 || eqb (c .cipher) 2) ≡ true
-  says-fits h = go (eqb (c .dialect) 0x0311) refl
+  says-fits : (dialect ≡ 0x0311 → Fits) → (not (eqb dialect 0x0311) || eqb cipher 1 || eqb cipher 2) ≡ true
+  says-fits h = go (eqb dialect 0x0311) refl
     where
-      one-of : (c .cipher ≡ 1) ⊎ (c .cipher ≡ 2) → (eqb (c .cipher) 1 || eqb (c .cipher) 2) ≡ true
-      one-of (inl p) = or-left (eqb (c .cipher) 1) (eqb (c .cipher) 2) (eq-eqb (c .cipher) 1 p)
-      one-of (inr p) = or-right (eqb (c .cipher) 1) (eqb (c .cipher) 2) (eq-eqb (c .cipher) 2 p)
+      one-of : Fits → (eqb cipher 1 || eqb cipher 2) ≡ true
+      one-of (inl p) = or-left (eqb cipher 1) (eqb cipher 2) (eq-eqb cipher 1 p)
+      one-of (inr p) = or-right (eqb cipher 1) (eqb cipher 2) (eq-eqb cipher 2 p)
 
-      go : (b : Bool) → eqb (c .dialect) 0x0311 ≡ b → (not b || eqb (c .cipher) 1 || eqb (c .cipher) 2) ≡ true
-      go true e = one-of (h (eqb-true (c .dialect) 0x0311 e))
+      go : (b : Bool) → eqb dialect 0x0311 ≡ b → (not b || eqb cipher 1 || eqb cipher 2) ≡ true
+      go true e = one-of (h (eqb-true dialect 0x0311 e))
       go false e = refl
 
-  encrypts-says : encrypts c ≡ true → Encrypts c
+  pub encrypts-says : encrypts c ≡ true → Encrypts c
   encrypts-says e =
-      let a = and-true (knownDialect (c .dialect) && c .encryption && not (eqb (c .cipher) 0)) (not (eqb (c .dialect) 0x0311) || eqb (c .cipher) 1 || eqb (c .cipher) 2) e in
-      let b = and-true (knownDialect (c .dialect) && c .encryption) (not (eqb (c .cipher) 0)) (a .0) in
-      let d = and-true (knownDialect (c .dialect)) (c .encryption) (b .0) in
+      let a = and-true (knownDialect dialect && c .encryption && not (eqb cipher 0)) (not (eqb dialect 0x0311) || eqb cipher 1 || eqb cipher 2) e in
+      let b = and-true (knownDialect dialect && c .encryption) (not (eqb cipher 0)) (a .0) in
+      let d = and-true (knownDialect dialect) (c .encryption) (b .0) in
       record {
         dialect-known = known-says (d .0);
         on = d .1;
-        some-cipher = eqb-false (c .cipher) 0 (not-true (eqb (c .cipher) 0) (b .1));
+        some-cipher = eqb-false cipher 0 (not-true (eqb cipher 0) (b .1));
         cipher-known = fits-says (a .1);
       }
 
   says-encrypts : Encrypts c → encrypts c ≡ true
   says-encrypts h =
-      both (knownDialect (c .dialect) && c .encryption && not (eqb (c .cipher) 0)) (not (eqb (c .dialect) 0x0311) || eqb (c .cipher) 1 || eqb (c .cipher) 2)
-      (both (knownDialect (c .dialect) && c .encryption) (not (eqb (c .cipher) 0))
-      (both (knownDialect (c .dialect)) (c .encryption) (says-known (h .dialect-known)) (h .on))
-      (ap not (ne-eqb (c .cipher) 0 (h .some-cipher))))
+      both _ _
+      (both _ _ (both (knownDialect dialect) (c .encryption) (says-known (h .dialect-known)) (h .on)) (ap not (ne-eqb cipher 0 (h .some-cipher))))
       (says-fits (h .cipher-known))
 
--- ---- 1 to 5
+-- ---- the parts of the lists
+
+key-passes : (key : Bytes) → length key ≡ 16 → None (keyTests key)
+key-passes key l = past-line _ (ap not (eq-eqb (length key) 16 l)) no-line
+
+module _ (c : Connection) (m : Bytes) where
+  -- 1 to 5
+  header-passes : HeaderChecks c m → None (messageTests c m ++ headerTests (headerOf m))
+  header-passes h =
+      past-line _ (ap not (says-encrypts c (h .encrypts)))
+      (past-line _ (lt-leb (length m) 52 (h .long))
+      (past-line _ (le-ltb 1048576 (length (inner m)) (h .short))
+      (past-line _ (ap not (ap (λ (x : Bytes). sameBytes x protocolId) (h .begins) ∙ same-self protocolId))
+      (past-line _ (ap not (eq-eqb (flagsOf m) 1 (h .flags))) no-line))))
+
+  header-says : not (encrypts c) ≡ false → leb (length m) 52 ≡ false → ltb 1048576 (length (inner m)) ≡ false
+      → not (sameBytes (take 4 m) protocolId) ≡ false → not (eqb (flagsOf m) 1) ≡ false → HeaderChecks c m
+  header-says at1 at2 at3 at4 at5 =
+      record {
+        encrypts = encrypts-says c (not-false (encrypts c) at1);
+        long = leb-false (length m) 52 at2;
+        short = ltb-false 1048576 (length (inner m)) at3;
+        begins = same-equal (take 4 m) protocolId (not-false (sameBytes (take 4 m) protocolId) at4);
+        flags = eqb-true (flagsOf m) 1 (not-false (eqb (flagsOf m) 1) at5);
+      }
+
+-- 6 to 8
+record-passes : (c : Connection) (s : Session) → s .used ≡ true → c .constrained ≡ false → (s .guest || s .anonymous) ≡ false → None (recordTests c s)
+record-passes c s known free plain = past-line _ (ap not known) (past-line _ free (past-line _ plain no-line))
+
+-- 9 and 10
+text-passes : (m : Bytes) (text : Option Bytes) (p : Bytes) → text ≡ some p → originalMessageSize m ≡ length (inner m) → None (textTests m text)
+text-passes m text p e size =
+    past-line _ (ap (λ (o : Option Bytes). not (isSome o)) e)
+    (past-line _ (ap not (eq-eqb (originalMessageSize m) (length (inner m)) size)) no-line)
+
+-- an opening with the table that passes every line: of any primitives
+pub open-passes : (P : Primitives) (c : Connection) (m : Bytes) (s : Session) (p : Bytes) → HeaderChecks c m
+    → s .used ≡ true → c .constrained ≡ false → (s .guest || s .anonymous) ≡ false
+    → plaintext P c m s ≡ some p → originalMessageSize m ≡ length (inner m) → None ((openTests P c m s) .before)
+unfolding openTests
+open-passes P c m s p h known free plain e size =
+    past-part (header-passes c m h) (past-part (record-passes c s known free plain) (text-passes m (plaintext P c m s) p e size))
+
+-- ---- 9 and 10, for the plaintext under a key
 
 is-some : (o : Option Bytes) → isSome o ≡ true → o ≡ some (Option·getD o [])
 is-some none e = absurd (let z : _≡_ {A = ℕ} 0 1 = cc in omega arith)
 is-some (some p) e = refl
 
-module _ (c : Protection) (m : Bytes) (rest : List Test) where
-  header-says : NoneApplies (openTests c m ++ rest) → HeaderChecks c m
-  header-says h =
-      record {
-        encrypts = encrypts-says c (not-false (encrypts c) (h .0));
-        long = leb-false (length m) 52 (h .1 .0);
-        short = ltb-false 1048576 (length (inner m)) (h .1 .1 .0);
-        begins = same-equal (take 4 m) protocolId (not-false (sameBytes (take 4 m) protocolId) (h .1 .1 .1 .0));
-        flags = eqb-true (flagsOf m) 1 (not-false (eqb (flagsOf m) 1) (h .1 .1 .1 .1 .0));
-      }
-
-  says-header : HeaderChecks c m → NoneApplies rest → NoneApplies (openTests c m ++ rest)
-  says-header h r = (
-    ap not (says-encrypts c (h .encrypts)),
-    (
-      lt-leb (length m) 52 (h .long),
-      (
-        le-ltb 1048576 (length (inner m)) (h .short),
-        (
-          ap not (ap (λ (x : Bytes). sameBytes x protocolId) (h .begins) ∙ same-self protocolId),
-          (
-            ap not (eq-eqb (flagsOf m) 1 (h .flags)),
-            r,
-          ),
-        ),
-      ),
-    ),
-  )
-
--- ---- 9 and 10, for the plaintext under a key
-
 module _ (cipher : ℕ) (key m : Bytes) where
-  carried-says : NoneApplies (tagTests m (plaintextUnder ciphers cipher key m)) → Carries cipher key m (Option·getD (plaintextUnder ciphers cipher key m) [])
-  carried-says h =
-      let there = is-some (plaintextUnder ciphers cipher key m) (not-false (isSome (plaintextUnder ciphers cipher key m)) (h .0)) in
+  abbrev text : Option Bytes
+  text = plaintextUnder ciphers cipher key m
+
+  carried-says : not (isSome text) ≡ false → not (eqb (originalMessageSize m) (length (inner m))) ≡ false → Carries cipher key m (Option·getD text [])
+  carried-says tag size =
+      let there = is-some text (not-false (isSome text) tag) in
       record {
-        ciphertext = text-ciphertext cipher key m (Option·getD (plaintextUnder ciphers cipher key m) []) there;
-        tag = text-tag cipher key m (Option·getD (plaintextUnder ciphers cipher key m) []) there;
-        size = eqb-true (originalMessageSize m) (length (inner m)) (not-false (eqb (originalMessageSize m) (length (inner m))) (h .1 .0));
+        ciphertext = text-ciphertext cipher key m (Option·getD text []) there;
+        tag = text-tag cipher key m (Option·getD text []) there;
+        size = eqb-true (originalMessageSize m) (length (inner m)) (not-false (eqb (originalMessageSize m) (length (inner m))) size);
       }
 
-  pub carried-text : (text : Bytes) → Carries cipher key m text → plaintextUnder ciphers cipher key m ≡ some text
-  carried-text text h = plaintext-of cipher key m text (h .ciphertext) (h .tag)
-
-  says-carried : (text : Bytes) → Carries cipher key m text → NoneApplies (tagTests m (plaintextUnder ciphers cipher key m))
-  says-carried text h = (
-    ap (λ (o : Option Bytes). not (isSome o)) (carried-text text h),
-    (
-      ap not (eq-eqb (originalMessageSize m) (length (inner m)) (h .size)),
-      tt,
-    ),
-  )
+  pub carried-text : (p : Bytes) → Carries cipher key m p → text ≡ some p
+  carried-text p h = plaintext-of cipher key m p (h .ciphertext) (h .tag)
 
 -- ---- under one key
 
-module _ (c : Protection) (key : Bytes) (id : ℕ) (m : Bytes) (n : ℕ) where
-  pub under-key-says : NoneApplies (keyLengthTests key ++ (openTests c m ++ (idTests m id ++ tagTests m (plaintextUnder ciphers (cipherUsed c) key m))))
-      → Walked (Option·getD (plaintextUnder ciphers (cipherUsed c) key m) []) id n → OpensUnderKey c key id m n
-  under-key-says h w =
+module _ (c : Connection) (key : Bytes) (id : ℕ) (w : Lent) (n : ℕ) where
+  abbrev m : Bytes
+  m = w .message
+
+  abbrev under : Option Bytes
+  under = plaintextUnder ciphers (cipherUsed c) key m
+
+  abbrev underLines : List Test
+  underLines = (tests suite (openingUnder c key id) w) .before
+
+  pub under-key-says : None underLines → Walked (Option·getD under []) (record { id = id }) n → OpensUnderKey c key id m n
+  unfolding tests
+  under-key-says passed walked =
+      let at = line underLines (none-applies underLines passed) in
       record {
-        key-fits = eqb-true (length key) 16 (not-false (eqb (length key) 16) (h .0));
-        header = header-says c m (idTests m id ++ tagTests m (plaintextUnder ciphers (cipherUsed c) key m)) (h .1);
-        same-id = eqb-true (sessionIdOf m) id (not-false (eqb (sessionIdOf m) id) (h .1 .1 .1 .1 .1 .1 .0));
-        text = Option·getD (plaintextUnder ciphers (cipherUsed c) key m) [];
-        carried = carried-says (cipherUsed c) key m (h .1 .1 .1 .1 .1 .1 .1);
-        walked = w;
+        key-fits = eqb-true (length key) 16 (not-false (eqb (length key) 16) (at 40));
+        header = header-says c m (at 1) (at 2) (at 3) (at 4) (at 5);
+        same-id = eqb-true (sessionIdOf m) id (not-false (eqb (sessionIdOf m) id) (at 6));
+        text = Option·getD under [];
+        carried = carried-says (cipherUsed c) key m (at 9) (at 10);
+        walked = walked;
       }
 
-  pub says-under-key : OpensUnderKey c key id m n → NoneApplies (keyLengthTests key ++ (openTests c m ++ (idTests m id ++ tagTests m (plaintextUnder ciphers (cipherUsed c) key m))))
-  says-under-key o = (
-    ap not (eq-eqb (length key) 16 (o .key-fits)),
-    says-header c m (idTests m id ++ tagTests m (plaintextUnder ciphers (cipherUsed c) key m)) (o .header) (
-      ap not (eq-eqb (sessionIdOf m) id (o .same-id)),
-      says-carried (cipherUsed c) key m (o .text) (o .carried),
-    ),
-  )
+  pub says-under-key : OpensUnderKey c key id m n → None underLines
+  unfolding tests
+  says-under-key o =
+      past-part (key-passes key (o .key-fits))
+      (past-part (header-passes c m (o .header))
+      (past-line _ (ap not (eq-eqb (sessionIdOf m) id (o .same-id)))
+      (text-passes m under (o .text) (carried-text (cipherUsed c) key m (o .text) (o .carried)) (o .carried .size))))
 
 -- ---- with the table
 
 module _ (c : Connection) (m : Bytes) (s : Session) (n : ℕ) where
-  pub record-says : NoneApplies (openTests (c .protection) m ++ (recordTests c s ++ tagTests m (plaintext suite c m s)))
-      → Walked (Option·getD (plaintext suite c m s) []) (sessionIdOf m) n → OpensWithRecord c m s n
-  record-says h w =
-      let g = or-false (s .guest) (s .anonymous) (h .1 .1 .1 .1 .1 .1 .1 .0) in
+  abbrev recordLines : List Test
+  recordLines = (openTests suite c m s) .before
+
+  pub record-says : None recordLines → Walked (Option·getD (plaintext suite c m s) []) (record { id = sessionIdOf m }) n → OpensWithRecord c m s n
+  unfolding openTests
+  record-says passed walked =
+      let at = line recordLines (none-applies recordLines passed) in
+      let g = or-false (s .guest) (s .anonymous) (at 8) in
       record {
-        header = header-says (c .protection) m (recordTests c s ++ tagTests m (plaintext suite c m s)) h;
-        known = not-false (s .used) (h .1 .1 .1 .1 .1 .0);
-        unconstrained = h .1 .1 .1 .1 .1 .1 .0;
+        header = header-says c m (at 1) (at 2) (at 3) (at 4) (at 5);
+        known = not-false (s .used) (at 6);
+        unconstrained = at 7;
         not-guest = g .0;
         not-anonymous = g .1;
         text = Option·getD (plaintext suite c m s) [];
-        carried = carried-says (cipherUsed (c .protection)) (openingKey (c .role) (s .keys)) m (h .1 .1 .1 .1 .1 .1 .1 .1);
-        walked = w;
+        carried = carried-says (cipherUsed c) (openingKey (c .role) (s .keys)) m (at 9) (at 10);
+        walked = walked;
       }
 
-  pub says-record : OpensWithRecord c m s n → NoneApplies (openTests (c .protection) m ++ (recordTests c s ++ tagTests m (plaintext suite c m s)))
+  pub record-text : (o : OpensWithRecord c m s n) → plaintext suite c m s ≡ some (o .text)
+  record-text o = carried-text (cipherUsed c) (openingKey (c .role) (s .keys)) m (o .text) (o .carried)
+
+  pub says-record : OpensWithRecord c m s n → None recordLines
   says-record o =
-      says-header (c .protection) m (recordTests c s ++ tagTests m (plaintext suite c m s)) (o .header) (
-        ap not (o .known),
-        (
-          o .unconstrained,
-          (
-            neither (s .guest) (s .anonymous) (o .not-guest) (o .not-anonymous),
-            says-carried (cipherUsed (c .protection)) (openingKey (c .role) (s .keys)) m (o .text) (o .carried),
-          ),
-        ),
-      )
+      let plain = neither (s .guest) (s .anonymous) (o .not-guest) (o .not-anonymous) in
+      open-passes suite c m s (o .text) (o .header) (o .known) (o .unconstrained) plain (record-text o) (o .carried .size)

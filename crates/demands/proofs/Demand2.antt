@@ -1,72 +1,127 @@
--- Demand 2: the definitions unfolded, and the checks of an opening both ways.
+-- Demand 2: what a call leaves is its effect, and the checks of an opening both ways.
 -- Assumes nothing.
 use mathlib.Core.Path.{_≡_, refl, ap, _∙_}
-use mathlib.Core.Bool.{Bool, cond}
-use mathlib.Core.List.{List, [], _++_}
+use mathlib.Core.Bool.{Bool, true, false, cond}
+use mathlib.Core.List.{[], _++_}
 use mathlib.Core.Option.{Option, some, Option·getD}
 use Prim.Native.Nat.{ℕ}
-use borrow.Author.Tests.{eq-eqb, ne-eqb}
+use native.Mathlib.Omega.{arith}
+use borrow.Author.Tests.{ne-eqb}
 use lib.Dec.{lit≤}
 use lib.ListN.{take}
 use Rattle.protocol.specs.Bytes.{Bytes}
-use Rattle.protocol.specs.Answer.{Answer, done}
-use Rattle.protocol.specs.Keys.{keys311, keys300, keysInOrder, derivedKeys, derivationInput, sessionKey, deriveNumber}
-use Rattle.protocol.specs.Preauth.{FoldAnswer, valueAfter}
-use Rattle.protocol.specs.SessionTable.{Session, recordOf, addNumber, newRecord, fillFree}
-use Rattle.protocol.specs.TransformHeader.{nonceOf, authenticated, sessionIdOf}
-use Rattle.protocol.specs.UnderKey.{Protection, cipherUsed, counterAfter, sealUnderKeyAnswer, sealUnderKeyBuffer, sealedUnder, openUnderKeyAnswer, openUnderKeyBuffer}
-use Rattle.protocol.specs.Transform.{Connection, openingKey, sealAnswer, sealBuffer, sealTable, plaintext, openAnswer, openBuffer, bufferAfterOpening}
-use Rattle.ciphers.specs.ByNumber.{cipherOf}
+use Rattle.protocol.specs.Answer.{done}
+use Rattle.protocol.specs.Connection.{Connection, cipherUsed}
+use Rattle.protocol.specs.Keys.{keys311, keys300, derivedKeys}
+use Rattle.protocol.specs.Preauth.{FoldKind, statusAllows}
+use Rattle.protocol.specs.Ciphers.{cipherOf}
+use Rattle.protocol.specs.Transform.{plaintextUnder}
+use Rattle.protocol.specs.Calls.{derivation, folding, sealingUnder, openingUnder, adding, sealing, opening}
+use Rattle.protocol.specs.Calls.{Lent, withMessage, withChain, openTests, tests, effect, answer, left}
 use Rattle.protocol.specs.Suite.{suite, sha512, kdf, ciphers}
 use Rattle.protocol.proofs.SuiteLaws.{sha512-is, kdf-of-document}
-use Rattle.demands.specs.Opening.{Carries, OpensUnderKey, OpensWithTable}
-use Rattle.demands.specs.Demand2.{keyFrom, KeysOfPapers, CiphersOfPapers, SealsUnderKey, SealsWithTable, Demand2}
 use Rattle.demands.specs.Lines.{no-line}
-use Rattle.demands.proofs.LineLaws.{none-applies, none-of}
-use Rattle.demands.proofs.Demand1.{demand1}
+use Rattle.demands.specs.Opening.{Carries, OpensUnderKey, OpensWithRecord}
+use Rattle.demands.specs.Demand2.{keyFrom, KeysOfPapers, ChainOfPapers, CiphersOfPapers, SealedOfPapers, recordNamed, openedWith, OpenedOfPapers, Demand2}
+use Rattle.demands.proofs.Answering.{passes-of, done-of}
+use Rattle.demands.proofs.CallLaws.{left-done}
 use Rattle.demands.proofs.Padding.{padded-then-cut}
-use Rattle.demands.proofs.Checks.{carried-text, under-key-says, says-under-key, record-says, says-record}
+use Rattle.demands.proofs.Checks.{carried-text, under-key-says, says-under-key, record-says, record-text, says-record}
 
 -- ---- keys
 
 kdf-is : kdf ≡ keyFrom
-unfolding derivationInput
 kdf-is = λ i key label context. kdf-of-document key label context i
 
 keys-of-papers : KeysOfPapers
-unfolding derivedKeys
+unfolding derivedKeys effect
 keys-of-papers =
     record {
       session-key = λ material. padded-then-cut 16 16 material (lit≤ tt);
       keys-311 = λ chain key. ap (λ (f : Bytes → Bytes → Bytes → Bytes). keys311 f chain key) kdf-is;
-      keys-300 = λ dialect chain key h. ap (λ (b : Bool). cond b (keys311 kdf chain key) (keys300 kdf key)) (ne-eqb dialect 0x0311 h) ∙ ap (λ (f : Bytes → Bytes → Bytes → Bytes). keys300 f key) kdf-is;
-      written = λ dialect chain material place e. ap (λ (b : Bool). cond b (keysInOrder (derivedKeys kdf dialect chain (sessionKey material))) place) (eq-eqb (deriveNumber dialect chain material place) 0 e);
-      added = λ a t e. ap (λ (b : Bool). cond b (fillFree (newRecord kdf a) t) t) (eq-eqb (addNumber a t) 0 e);
+      keys-300 =
+          λ dialect chain key h.
+          ap (λ (b : Bool). cond b (keys311 kdf chain key) (keys300 kdf key)) (ne-eqb dialect 0x0311 h)
+          ∙ ap (λ (f : Bytes → Bytes → Bytes → Bytes). keys300 f key) kdf-is;
+      written = λ dialect chain material. left-done suite (derivation dialect chain material);
+      added = λ a. left-done suite (adding a);
     }
+
+-- ---- the chain
+
+mark-one : (b : Bool) → _≡_ {A = ℕ} (cond b 1 0) 1 → b ≡ true
+mark-one true e = refl
+mark-one false e = absurd (omega arith)
+
+folded-in : (kind : FoldKind) (m : Bytes) (w : Lent) → answer suite (folding kind m) w ≡ done 1
+    → left suite (folding kind m) w ≡ withChain (sha512 (w .chain ++ m)) w
+unfolding tests effect
+folded-in kind m w e =
+    left-done suite (folding kind m) w 1 e
+    ∙ ap (λ (b : Bool). withChain (cond b (sha512 (w .chain ++ m)) (w .chain)) w)
+    (mark-one (statusAllows kind m) ((passes-of (tests suite (folding kind m) w) 1 e) .visits))
+
+chain-of-papers : ChainOfPapers
+chain-of-papers = record { folded = λ kind m w e. folded-in kind m w e ∙ ap (λ (v : Bytes). withChain v w) (sha512-is (w .chain ++ m)) }
+
+-- ---- the ciphers, and sealing
 
 ciphers-of-papers : (key nonce auth text : Bytes) → CiphersOfPapers key nonce auth text
 unfolding suite cipherOf
 ciphers-of-papers key nonce auth text = record { ccm-ciphertext = refl; ccm-tag = refl; gcm-ciphertext = refl; gcm-tag = refl }
 
--- ---- sealing
+sealed-of-papers : SealedOfPapers
+unfolding effect
+sealed-of-papers = record { under-key = λ c key id. left-done suite (sealingUnder c key id); with-table = λ c id. left-done suite (sealing c id) }
 
-seals-under-key : (c : Protection) (key : Bytes) (k id : ℕ) (m : Bytes) (n : ℕ) → sealUnderKeyAnswer c key k id m ≡ done n → SealsUnderKey c key k id m
-unfolding sealedUnder nonceOf authenticated
-seals-under-key c key k id m n e =
-    record {
-      bytes = ap (λ (a : Answer). sealUnderKeyBuffer ciphers a c key k id m) e;
-      counter = ap (λ (a : Answer). counterAfter a k) e;
-    }
+-- ---- opening under one key
 
-seals-with-table : (c : Connection) (id : ℕ) (m : Bytes) (t : List Session) (n : ℕ) → sealAnswer suite c id m t ≡ done n → SealsWithTable c id m t
-unfolding sealedUnder nonceOf authenticated
-seals-with-table c id m t n e =
-    record {
-      bytes = ap (λ (a : Answer). sealBuffer suite a c id m t) e;
-      table = ap (λ (a : Answer). sealTable a id t) e;
-    }
+module _ (c : Connection) (key : Bytes) (id : ℕ) (w : Lent) (n : ℕ) where
+  key-text : (o : OpensUnderKey c key id (w .message) n) → plaintextUnder ciphers (cipherUsed c) key (w .message) ≡ some (o .text)
+  key-text o = carried-text (cipherUsed c) key (w .message) (o .text) (o .carried)
 
--- ---- opening
+  opens-key : answer suite (openingUnder c key id) w ≡ done n → OpensUnderKey c key id (w .message) n
+  unfolding tests
+  opens-key e =
+      let p = passes-of (tests suite (openingUnder c key id) w) n e in
+      under-key-says c key id w n (p .lines) (p .visits)
+
+  key-opens : OpensUnderKey c key id (w .message) n → answer suite (openingUnder c key id) w ≡ done n
+  unfolding tests
+  key-opens o =
+      done-of (tests suite (openingUnder c key id) w) n
+      (record { lines = says-under-key c key id w n o; visits = rw (key-text o) (o .walked); later-lines = no-line })
+
+  key-left : (o : OpensUnderKey c key id (w .message) n) → left suite (openingUnder c key id) w ≡ openedWith (o .text) w
+  unfolding effect
+  key-left o =
+      left-done suite (openingUnder c key id) w n (key-opens o)
+      ∙ ap (λ (p : Option Bytes). withMessage (take 52 (w .message) ++ Option·getD p []) w) (key-text o)
+
+-- ---- opening with the table
+
+module _ (c : Connection) (w : Lent) (n : ℕ) where
+  opens-table : answer suite (opening c) w ≡ done n → OpensWithRecord c (w .message) (recordNamed w) n
+  unfolding tests openTests
+  opens-table e =
+      let p = passes-of (tests suite (opening c) w) n e in
+      record-says c (w .message) (recordNamed w) n (p .lines) (p .visits)
+
+  table-opens : OpensWithRecord c (w .message) (recordNamed w) n → answer suite (opening c) w ≡ done n
+  unfolding tests openTests
+  table-opens o =
+      done-of (tests suite (opening c) w) n
+      (record {
+        lines = says-record c (w .message) (recordNamed w) n o;
+        visits = rw (record-text c (w .message) (recordNamed w) n o) (o .walked);
+        later-lines = no-line;
+      })
+
+  table-left : (o : OpensWithRecord c (w .message) (recordNamed w) n) → left suite (opening c) w ≡ openedWith (o .text) w
+  unfolding effect
+  table-left o =
+      left-done suite (opening c) w n (table-opens o)
+      ∙ ap (λ (p : Option Bytes). withMessage (take 52 (w .message) ++ Option·getD p []) w) (record-text c (w .message) (recordNamed w) n o)
 
 one-text : (cipher : ℕ) (key m text text′ : Bytes) → Carries cipher key m text → Carries cipher key m text′ → text ≡ text′
 one-text cipher key m text text′ a b =
@@ -74,64 +129,22 @@ one-text cipher key m text text′ a b =
     let q = carried-text cipher key m text′ b in
     cc
 
--- ---- opening under one key
-
-module _ (c : Protection) (key : Bytes) (id : ℕ) (m : Bytes) (n : ℕ) where
-  opens-key : openUnderKeyAnswer ciphers c key id m ≡ done n → OpensUnderKey c key id m n
-  opens-key e =
-      let p = (demand1 .numbers .opening-under-key c key id m) .passes n .0 e in
-      under-key-says c key id m n (none-applies _ (p .lines)) (p .walked)
-
-  key-opens : OpensUnderKey c key id m n → openUnderKeyAnswer ciphers c key id m ≡ done n
-  key-opens o =
-      (demand1 .numbers .opening-under-key c key id m) .passes n .1
-      (record {
-        lines = none-of _ (says-under-key c key id m n o);
-        walked = rw (carried-text (cipherUsed c) key m (o .text) (o .carried)) (o .walked);
-        later-lines = no-line;
-      })
-
-  key-text : (o : OpensUnderKey c key id m n) → openUnderKeyBuffer ciphers (openUnderKeyAnswer ciphers c key id m) c key m ≡ take 52 m ++ o .text
-  key-text o =
-      ap (λ (a : Answer). openUnderKeyBuffer ciphers a c key m) (key-opens o)
-      ∙ ap (λ (p : Option Bytes). take 52 m ++ Option·getD p []) (carried-text (cipherUsed c) key m (o .text) (o .carried))
-
--- ---- opening with the table
-
-module _ (c : Connection) (m : Bytes) (t : List Session) (n : ℕ) where
-  opens-table : openAnswer suite c m t ≡ done n → OpensWithTable c m t n
-  opens-table e =
-      let p = (demand1 .numbers .opening c m t) .passes n .0 e in
-      record-says c m (recordOf (sessionIdOf m) t) n (none-applies _ (p .lines)) (p .walked)
-
-  table-text : (o : OpensWithTable c m t n) → plaintext suite c m (recordOf (sessionIdOf m) t) ≡ some (o .text)
-  table-text o = carried-text (cipherUsed (c .protection)) (openingKey (c .role) ((recordOf (sessionIdOf m) t) .keys)) m (o .text) (o .carried)
-
-  table-opens : OpensWithTable c m t n → openAnswer suite c m t ≡ done n
-  table-opens o =
-      (demand1 .numbers .opening c m t) .passes n .1
-      (record {
-        lines = none-of _ (says-record c m (recordOf (sessionIdOf m) t) n o);
-        walked = rw (table-text o) (o .walked);
-        later-lines = no-line;
-      })
-
-  table-buffer : (o : OpensWithTable c m t n) → bufferAfterOpening suite c m t ≡ take 52 m ++ o .text
-  table-buffer o =
-      ap (λ (a : Answer). openBuffer suite a c m t) (table-opens o)
-      ∙ ap (λ (p : Option Bytes). take 52 m ++ Option·getD p []) (table-text o)
+opened-of-papers : OpenedOfPapers
+opened-of-papers =
+    record {
+      under-key = λ c key id w n. (opens-key c key id w n, key-opens c key id w n);
+      with-table = λ c w n. (opens-table c w n, table-opens c w n);
+      one-text = one-text;
+      text-under-key = key-left;
+      text-with-table = table-left;
+    }
 
 pub demand2 : Demand2
 demand2 =
     record {
       keys = keys-of-papers;
-      chain = record { folded = λ v f e. ap (λ (a : FoldAnswer). valueAfter sha512 a v (f .message)) e ∙ sha512-is (v ++ f .message) };
+      chain = chain-of-papers;
       enciphered = ciphers-of-papers;
-      sealed-under-key = seals-under-key;
-      sealed-with-table = seals-with-table;
-      opens-under-key = λ c key id m n. (opens-key c key id m n, key-opens c key id m n);
-      opens-with-table = λ c m t n. (opens-table c m t n, table-opens c m t n);
-      one-text = one-text;
-      text-under-key = key-text;
-      text-with-table = table-buffer;
+      sealed = sealed-of-papers;
+      opened = opened-of-papers;
     }

@@ -1,60 +1,78 @@
 -- Demand 3, whole: of any primitives that are sound, and so of the suite.
 -- Assumes nothing.
 use mathlib.Core.Path.{_≡_, refl, sym, ap, _∙_}
-use mathlib.Core.Bool.{_||_}
-use mathlib.Core.List.{List·Memᴰ}
-use Rattle.protocol.specs.Preauth.{foldAll, freshChain}
+use mathlib.Core.Bool.{true, _||_}
+use Prim.Native.Nat.{ℕ}
+use Rattle.protocol.specs.Bytes.{Bytes}
+use Rattle.protocol.specs.Connection.{Role, client, server, other, encrypts}
 use Rattle.protocol.specs.Keys.{derivedKeys}
-use Rattle.protocol.specs.SessionTable.{Session, recordOf, newRecord}
-use Rattle.protocol.specs.UnderKey.{Primitives}
-use Rattle.protocol.specs.Transform.{Role, client, server, other, sealingKey}
+use Rattle.protocol.specs.SessionTable.{Session, sealingKey, recordOf, newRecord}
+use Rattle.protocol.specs.Transform.{Primitives}
+use Rattle.protocol.specs.Calls.{onlyTable}
 use Rattle.protocol.specs.Sound.{Sound}
 use Rattle.protocol.specs.Suite.{suite}
 use Rattle.protocol.proofs.SuiteLaws.{suite-sound}
-use Rattle.demands.specs.Demand3.{Ends, Premises, Opens, Demand3, added, connectionOf, Made, madeAt}
-use Rattle.demands.proofs.ChainLaws.{chains-agree, same-value}
-use Rattle.demands.proofs.TableLaws.{Held, held, Keeps, keeps-all, keeps-start, new-is}
-use Rattle.demands.proofs.OpeningLaws.{seal-says, opens}
+use Rattle.demands.specs.Chains.{Among}
+use Rattle.demands.specs.Steps.{Step}
+use Rattle.demands.specs.Demand3.{Ends, endConnection, sessionAdded, madeAt, Premises, Seals, by-call, Opens, Demand3}
+use Rattle.demands.proofs.FoldLaws.{chains-agree, same-value}
+use Rattle.demands.proofs.Following.{Held, held, added-record, added-present, follows-all}
+use Rattle.demands.proofs.OpeningLaws.{SealedAs, seal-on, seal-as, opens}
+
+other-other : (r : Role) → other (other r) ≡ r
+other-other client = refl
+other-other server = refl
+
+sealing-key : (r : Role) (x y : Session) → held x ≡ held y → sealingKey r (x .keys) ≡ sealingKey r (y .keys)
+sealing-key client x y e = ap (λ (h : Held). h .clientToServer) e
+sealing-key server x y e = ap (λ (h : Held). h .serverToClient) e
 
 module _ (P : Primitives) (sound : Sound P) (e : Ends) (h : Premises P e) where
   -- the record that the end r adds
-  record-at : Role → Session
-  record-at r = newRecord (P .kdf) (added P e r)
-
-  same-chain : foldAll (P .sha512) freshChain (e .folds client) ≡ foldAll (P .sha512) freshChain (e .folds server)
-  same-chain = same-value (P .sha512) (sound .hash-length) (e .folds client) (e .folds server) (h .same-messages)
+  abbrev record-at : Role → Session
+  record-at r = newRecord (P .kdf) (sessionAdded P e r)
 
   -- both ends hold the same keys
+  keys-alike : (record-at client) .keys ≡ (record-at server) .keys
+  keys-alike =
+      let chain = same-value P (sound .hash-length) (e .chainCalls client) (e .chainCalls server) (h .same-messages) in
+      λ i. derivedKeys (P .kdf) 0x0311 (chain i) (h .same-key i)
+
   same-keys : (r : Role) → (record-at (other r)) .keys ≡ (record-at r) .keys
-  unfolding record-at
-  same-keys client = sym (λ i. derivedKeys (P .kdf) 0x0311 (same-chain i) (h .same-key i))
-  same-keys server = λ i. derivedKeys (P .kdf) 0x0311 (same-chain i) (h .same-key i)
+  same-keys client = sym keys-alike
+  same-keys server = keys-alike
 
-  -- whatever table a call at the end r gets, the session's record there is the one added, but for its counter
-  kept-at : (r : Role) (x : Made) → List·Memᴰ x (madeAt P e r) → Keeps (e .id) (record-at r) (x .table)
-  unfolding record-at
+  -- whatever table a step at the end r gets, the session's record there is the one added, but for its counter
+  kept-at : (r : Role) (x : Step) → Among x (madeAt P e r) → held (recordOf (e .id) (x .lent .table)) ≡ held (record-at r)
   kept-at r x x-in =
-      keeps-all P (e .id) (record-at r) (new-is P (added P e r)) (e .calls r) _ (h .kept r)
-      (keeps-start P (added P e r) (e .tableBefore r) (h .added-with-success r)) x x-in
+      let a = sessionAdded P e r in
+      let w = onlyTable (e .tableBefore r) in
+      let success = h .added-with-success r in
+      (follows-all P (e .id) (e .steps r) _ (h .kept r) (added-present P a w 0 success) x x-in) .same ∙ ap held (added-record P a w 0 success)
 
-  sealing-key : (r : Role) (x y : Session) → held x ≡ held y → sealingKey r (x .keys) ≡ sealingKey r (y .keys)
-  sealing-key client x y e = ap (λ (h : Held). h .clientToServer) e
-  sealing-key server x y e = ap (λ (h : Held). h .serverToClient) e
+  -- however m was sealed, it was under the session's key at that end
+  sealed-as : (r : Role) (m sealed : Bytes) (n : ℕ) → Seals P e r m sealed n
+      → SealedAs P (e .cipher) (sealingKey r ((record-at r) .keys)) (e .id) m sealed n
+  sealed-as r _ _ n (by-call w w-in a) =
+      rw (← sealing-key r (recordOf (e .id) (w .table)) (record-at r) (kept-at r _ w-in)) (seal-as P (endConnection e r) (e .id) w n a)
+
+  encrypting : (r : Role) (m sealed : Bytes) (n : ℕ) → Seals P e r m sealed n → encrypts (endConnection e r) ≡ true
+  encrypting r _ _ n (by-call w w-in a) = seal-on P (endConnection e r) (e .id) w n a
 
   opens-all : Opens P e
-  unfolding record-at Keeps
-  opens-all r m sealed n s u u-in =
-      let k = kept-at r _ (s .called) in
-      let k′ = kept-at (other r) _ u-in in
-      rw (s .left)
-      (opens P sound (connectionOf (e .cipher) r) (connectionOf (e .cipher) (other r)) (e .id) m (s .table) u n (h .id-fits) (s .answered)
-      ((seal-says P (connectionOf (e .cipher) r) (e .id) m (s .table) n (s .answered)) .on) refl refl refl
-      (ap (λ (x : Held). x .used) k′)
-      (ap (λ (x : Held). x .guest || x .anonymous) k′)
-      (sealing-key r (recordOf (e .id) u) (record-at (other r)) k′ ∙ ap (sealingKey r) (same-keys r) ∙ sym (sealing-key r (recordOf (e .id) (s .table)) (record-at r) k)))
+  opens-all r m sealed n s w lent =
+      let k = kept-at (other r) _ (lent .called) in
+      let d = endConnection e (other r) in
+      let key = sealingKey r ((record-at r) .keys) in
+      opens P sound d key (e .id) m w n (h .id-fits) (rw (lent .copied) (sealed-as r m sealed n s)) (encrypting r m sealed n s) refl
+      (ap (λ (x : Held). x .used) k)
+      (ap (λ (x : Held). x .guest || x .anonymous) k)
+      (ap (λ (q : Role). sealingKey q ((recordOf (e .id) (w .table)) .keys)) (other-other r)
+      ∙ sealing-key r (recordOf (e .id) (w .table)) (record-at (other r)) k
+      ∙ ap (sealingKey r) (same-keys r))
 
 pub holds-of : (P : Primitives) → Sound P → Demand3 P
-holds-of P sound = record { chains = chains-agree (P .sha512) (sound .hash-length); sessions = λ e h. opens-all P sound e h }
+holds-of P sound = record { chains = chains-agree P (sound .hash-length); sessions = opens-all P sound }
 
 pub demand3 : Demand3 suite
 demand3 = holds-of suite suite-sound

@@ -1,186 +1,168 @@
--- Opening what was sealed.
+-- Opening what was sealed: the fields that sealing wrote are those that opening reads.
 -- Assumes nothing.
-use mathlib.Core.Path.{_≡_, refl, sym, ap, _∙_}
-use mathlib.Core.List.{List, [], _++_}
-use mathlib.Core.Bool.{true, false, not, _||_}
+use mathlib.Core.Path.{_≡_, sym, ap, _∙_}
+use mathlib.Core.List.{[], _++_}
+use mathlib.Core.Bool.{true, false, _||_}
 use mathlib.Core.Option.{Option, some, Option·getD}
 use Prim.Native.Nat.{ℕ, _^_, _≤_, _<_}
 use native.Mathlib.Omega.{arith}
 use lib.ListN.{length, take, drop, length-drop}
 use lib.Seq.{drop-at, length-take-le}
-use borrow.Author.Tests.{leb-false, ltb-false, lt-leb, le-ltb, eq-eqb, not-false}
-use Rattle.octets.specs.Same.{sameBytes}
-use Rattle.octets.proofs.SameLaws.{same-self}
+use borrow.Author.Tests.{leb-false, ltb-false, not-false}
 use Rattle.protocol.specs.Bytes.{Bytes}
-use Rattle.protocol.specs.Preauth.{longestMessage}
-use Rattle.protocol.specs.Answer.{done, judgeAfter}
-use Rattle.protocol.specs.CompoundWalk.{walk}
-use Rattle.protocol.specs.SessionTable.{Session, recordOf}
-use Rattle.protocol.specs.TransformHeader.{protocolId, nonceOf, authenticated, inner, flagsOf, originalMessageSize, sessionIdOf, signatureOf, nonceField, authenticatedOf}
-use Rattle.protocol.specs.UnderKey.{Primitives, encrypts, cipherUsed, sealTests, counterTests, openTests, tagTests, sealedUnder, plaintextUnder}
-use Rattle.protocol.specs.Transform.{Role, client, server, other, sealingKey, openingKey, Connection, recordTests, sealAnswer, bufferAfterSealing, plaintext, openWith, openAnswer, openBuffer, bufferAfterOpening}
+use Rattle.protocol.specs.Answer.{done}
+use Rattle.protocol.specs.Connection.{Connection, encrypts, cipherUsed, longestMessage}
+use Rattle.protocol.specs.TransformHeader.{nonceOf, authenticated, inner, originalMessageSize, sessionIdOf, signatureOf, nonceField, authenticatedOf}
+use Rattle.protocol.specs.SessionTable.{Session, sealingKey, openingKey, recordOf}
+use Rattle.protocol.specs.Transform.{Primitives, sealedUnder, plaintextUnder, openedTo}
+use Rattle.protocol.specs.Calls.{sealing, opening, Lent, sealTests, openTests, plaintext, tests, effect, answer, left}
 use Rattle.protocol.specs.Sound.{Sound}
-use Rattle.protocol.proofs.Judging.{judge-done, judge-passed}
-use Rattle.protocol.proofs.AnswerLaws.{judge-after-done}
-use Rattle.protocol.proofs.HeaderLaws.{written, field-start, field-signature, field-authenticated, field-nonce, field-size, field-flags, field-id, field-body, written-length}
+use Rattle.protocol.proofs.HeaderLaws.{written, field-start, field-signature, field-authenticated, field-nonce, field-size, field-flags, field-id, field-body}
+use Rattle.protocol.proofs.HeaderLaws.{written-length}
+use Rattle.demands.specs.Lines.{None, no-line}
+use Rattle.demands.specs.Walk.{Walked}
+use Rattle.demands.specs.Opening.{HeaderChecks}
+use Rattle.demands.proofs.Answering.{passes-of, done-of, line-of}
+use Rattle.demands.proofs.CallLaws.{left-done}
+use Rattle.demands.proofs.Checks.{encrypts-says, open-passes}
 
--- what a seal that answers 0 says
-pub record Sealed (c : Connection) (id : ℕ) (m : Bytes) (n : ℕ) : Type 0 where
-  pub on : encrypts (c .protection) ≡ true
+-- m was sealed with success, which left b: by whatever call, under this cipher and key, for this id
+pub record SealedAs (P : Primitives) (cipher : ℕ) (key : Bytes) (id : ℕ) (m b : Bytes) (n : ℕ) : Type 0 where
+  pub counter : ℕ
   pub long : 52 < length m
   pub short : length (inner m) ≤ longestMessage
-  pub walked : walk (inner m) id ≡ done n
+  pub walked : Walked (inner m) (record { id = id }) n
+  pub bytes : b ≡ sealedUnder (P .ciphers) cipher key counter id (inner m)
 
-pub seal-says : (P : Primitives) (c : Connection) (id : ℕ) (m : Bytes) (t : List Session) (n : ℕ) → sealAnswer P c id m t ≡ done n → Sealed c id m n
-unfolding sealAnswer
-seal-says P c id m t n e =
-    let r = judge-done (sealTests (c .protection) m ++ recordTests c (recordOf id t)) (judgeAfter (walk (inner m) id) (counterTests ((recordOf id t) .counter))) n e in
-    record {
-      on = not-false (encrypts (c .protection)) (r .0 .0);
-      long = leb-false (length m) 52 (r .0 .1 .0);
-      short = ltb-false longestMessage (length (inner m)) (r .0 .1 .1 .0);
-      walked = judge-after-done (walk (inner m) id) (counterTests ((recordOf id t) .counter)) n (r .1);
-    }
+-- ---- a seal of the table
 
--- an opening that passes every test before the walk
-pub open-passes : (P : Primitives) (d : Connection) (b : Bytes) (w : Session) (p : Bytes)
-    → plaintext P d b w ≡ some p
-    → encrypts (d .protection) ≡ true → 52 < length b → length (inner b) ≤ longestMessage → take 4 b ≡ protocolId → flagsOf b ≡ 1
-    → w .used ≡ true → d .constrained ≡ false → (w .guest || w .anonymous) ≡ false → originalMessageSize b ≡ length (inner b)
-    → openWith P d b w ≡ walk p (sessionIdOf b)
-unfolding openWith
-open-passes P d b w p pt on long short start flags known free plain size =
-    rw pt
-    (judge-passed (openTests (d .protection) b ++ (recordTests d w ++ tagTests b (some p))) (walk p (sessionIdOf b)) (
-      ap not on,
-      (
-        lt-leb (length b) 52 long,
-        (
-          le-ltb longestMessage (length (inner b)) short,
-          (
-            ap not (ap (λ (x : Bytes). sameBytes x protocolId) start ∙ same-self protocolId),
-            (
-              ap not (eq-eqb (flagsOf b) 1 flags),
-              (
-                ap not known,
-                (
-                  free,
-                  (
-                    plain,
-                    (
-                      refl,
-                      (
-                        ap not (eq-eqb (originalMessageSize b) (length (inner b)) size),
-                        tt,
-                      ),
-                    ),
-                  ),
-                ),
-              ),
-            ),
-          ),
-        ),
-      ),
-    ))
+module _ (P : Primitives) (c : Connection) (id : ℕ) (w : Lent) (n : ℕ) (e : answer P (sealing c id) w ≡ done n) where
+  -- its connection encrypts
+  pub seal-on : encrypts c ≡ true
+  unfolding tests sealTests
+  seal-on = not-false (encrypts c) (line-of (tests P (sealing c id) w) n e 1)
 
-other-other : (r : Role) → other (other r) ≡ r
-other-other client = refl
-other-other server = refl
+  pub seal-as : SealedAs P (cipherUsed c) (sealingKey (c .role) ((recordOf id (w .table)) .keys)) id (w .message) ((left P (sealing c id) w) .message) n
+  unfolding tests sealTests effect
+  seal-as =
+      let at = line-of (tests P (sealing c id) w) n e in
+      record {
+        counter = (recordOf id (w .table)) .counter;
+        long = leb-false (length (w .message)) 52 (at 2);
+        short = ltb-false longestMessage (length (inner (w .message))) (at 3);
+        walked = (passes-of (tests P (sealing c id) w) n e) .visits;
+        bytes = ap (λ (x : Lent). x .message) (left-done P (sealing c id) w n e);
+      }
+
+-- ---- an opening of the table
 
 -- the plaintext from the message's fields
-plaintext-is : (P : Primitives) (d : Connection) (b : Bytes) (w : Session) {cipher : ℕ} {key nonce auth sig body : Bytes}
-    → cipherUsed (d .protection) ≡ cipher → openingKey (d .role) (w .keys) ≡ key → nonceField b ≡ nonce → authenticatedOf b ≡ auth → signatureOf b ≡ sig → inner b ≡ body
-    → plaintext P d b w ≡ P .ciphers .decrypt cipher key nonce auth sig body
+plaintext-is : (P : Primitives) (d : Connection) (b : Bytes) (s : Session) {key nonce auth sig body : Bytes}
+    → openingKey (d .role) (s .keys) ≡ key → nonceField b ≡ nonce → authenticatedOf b ≡ auth → signatureOf b ≡ sig → inner b ≡ body
+    → plaintext P d b s ≡ P .ciphers .decrypt (cipherUsed d) key nonce auth sig body
 unfolding plaintextUnder
-plaintext-is P d b w e1 e2 e3 e4 e5 e6 = λ i. P .ciphers .decrypt (e1 i) (e2 i) (e3 i) (e4 i) (e5 i) (e6 i)
+plaintext-is P d b s e1 e2 e3 e4 e5 = λ i. P .ciphers .decrypt (cipherUsed d) (e1 i) (e2 i) (e3 i) (e4 i) (e5 i)
 
 -- what an opening leaves from byte 52 on
-opened-inner : (b p : Bytes) (o : Option Bytes) → o ≡ some p → 52 < length b → inner (take 52 b ++ Option·getD o []) ≡ p
-opened-inner b p o pt long =
-    ap (λ (o : Option Bytes). drop 52 (take 52 b ++ Option·getD o [])) pt ∙ drop-at (take 52 b) p 52 (length-take-le 52 b (omega arith))
+opened-inner : (b p : Bytes) (o : Option Bytes) → o ≡ some p → 52 < length b → inner (openedTo b o) ≡ p
+opened-inner b p o e long =
+    ap (λ (o : Option Bytes). drop 52 (take 52 b ++ Option·getD o [])) e ∙ drop-at (take 52 b) p 52 (length-take-le 52 b (omega arith))
 
--- One seal and one opening: c seals under the record s, d opens under the record w, with the same key for that way and the other role
-pub opens : (P : Primitives) (sound : Sound P) (c d : Connection) (id : ℕ) (m : Bytes) (t u : List Session) (n : ℕ)
-    → id < 2 ^ 64 → sealAnswer P c id m t ≡ done n
-    → encrypts (d .protection) ≡ true → cipherUsed (d .protection) ≡ cipherUsed (c .protection) → d .role ≡ other (c .role) → d .constrained ≡ false
-    → (recordOf id u) .used ≡ true → ((recordOf id u) .guest || (recordOf id u) .anonymous) ≡ false → sealingKey (c .role) ((recordOf id u) .keys) ≡ sealingKey (c .role) ((recordOf id t) .keys)
-    → (openAnswer P d (bufferAfterSealing P c id m t) u ≡ done n)
-    × (inner (bufferAfterOpening P d (bufferAfterSealing P c id m t) u) ≡ inner m)
+-- what opening finds of a sealed message b of the inner message p
+record Finds (P : Primitives) (d : Connection) (id : ℕ) (p b : Bytes) (s : Session) : Type 0 where
+  checks : HeaderChecks d b
+  size : originalMessageSize b ≡ length (inner b)
+  named : sessionIdOf b ≡ id
+  text : plaintext P d b s ≡ some p
+
+-- d opens under the record s, with the key that m was sealed with
+finds : (P : Primitives) (sound : Sound P) (d : Connection) (key : Bytes) (id : ℕ) (m b : Bytes) (s : Session) (n : ℕ)
+    → id < 2 ^ 64 → SealedAs P (cipherUsed d) key id m b n → encrypts d ≡ true → openingKey (d .role) (s .keys) ≡ key → Finds P d id (inner m) b s
 unfolding sealedUnder
-opens P sound c d id m t u n fits e on cipher role free known plain keys = rw e (answer, rw answer buffer)
+finds P sound d key id m b s n fits says on opening-key = rw (says .bytes) found
   where
-    s : Session
-    s = recordOf id t
-
-    w : Session
-    w = recordOf id u
-
     p : Bytes
     p = inner m
 
-    key : Bytes
-    key = sealingKey (c .role) (s .keys)
+    k : ℕ
+    k = says .counter
 
     auth : Bytes
-    auth = authenticated (s .counter) (length p) id
+    auth = authenticated k (length p) id
 
     sig : Bytes
-    sig = P .ciphers .tag (cipherUsed (c .protection)) key (nonceOf (s .counter)) auth p
+    sig = P .ciphers .tag (cipherUsed d) key (nonceOf k) auth p
 
     body : Bytes
-    body = P .ciphers .encrypt (cipherUsed (c .protection)) key (nonceOf (s .counter)) auth p
+    body = P .ciphers .encrypt (cipherUsed d) key (nonceOf k) auth p
 
-    b : Bytes
-    b = written sig body (s .counter) (length p) id
-
-    says : Sealed c id m n
-    says = seal-says P c id m t n e
+    sealed : Bytes
+    sealed = written sig body k (length p) id
 
     l : length sig ≡ 16
-    l = sound .tag-length (cipherUsed (c .protection)) key (nonceOf (s .counter)) auth p
+    l = sound .tag-length (cipherUsed d) key (nonceOf k) auth p
 
     same-length : length body ≡ length p
-    same-length = sound .encrypt-length (cipherUsed (c .protection)) key (nonceOf (s .counter)) auth p
+    same-length = sound .encrypt-length (cipherUsed d) key (nonceOf k) auth p
 
-    id-back : sessionIdOf b ≡ id
-    id-back = field-id sig body (s .counter) (length p) id l fits
-
-    named : recordOf (sessionIdOf b) u ≡ w
-    named = ap (λ (i : ℕ). recordOf i u) id-back
-
-    opening-key : openingKey (d .role) (w .keys) ≡ key
-    opening-key = ap (λ (r : Role). sealingKey (other r) (w .keys)) role ∙ ap (λ (r : Role). sealingKey r (w .keys)) (other-other (c .role)) ∙ keys
-
-    pt : plaintext P d b w ≡ some p
-    pt =
-        plaintext-is P d b w cipher opening-key
-        (field-nonce sig body (s .counter) (length p) id l)
-        (field-authenticated sig body (s .counter) (length p) id l)
-        (field-signature sig body (s .counter) (length p) id l)
-        (field-body sig body (s .counter) (length p) id l)
-        ∙ sound .decrypts (cipherUsed (c .protection)) key (nonceOf (s .counter)) auth p
-
-    inner-length : length (inner b) ≡ length p
-    inner-length = ap length (field-body sig body (s .counter) (length p) id l) ∙ same-length
+    inner-length : length (inner sealed) ≡ length p
+    inner-length = ap length (field-body sig body k (length p) id l) ∙ same-length
 
     some-bytes : 0 < length p
     some-bytes = omega (arith, length-drop 52 m, says .long)
 
-    long : 52 < length b
-    long = rw (written-length sig body (s .counter) (length p) id l) (omega (arith, same-length, some-bytes))
+    found : Finds P d id p sealed s
+    found =
+        record {
+          checks = record {
+            encrypts = encrypts-says d on;
+            long = rw (written-length sig body k (length p) id l) (omega (arith, same-length, some-bytes));
+            short = rw inner-length (says .short);
+            begins = field-start sig body k (length p) id l;
+            flags = field-flags sig body k (length p) id l;
+          };
+          size = field-size sig body k (length p) id l (omega (arith, says .short)) ∙ sym inner-length;
+          named = field-id sig body k (length p) id l fits;
+          text =
+              plaintext-is P d sealed s opening-key
+              (field-nonce sig body k (length p) id l)
+              (field-authenticated sig body k (length p) id l)
+              (field-signature sig body k (length p) id l)
+              (field-body sig body k (length p) id l)
+              ∙ sound .decrypts (cipherUsed d) key (nonceOf k) auth p;
+        }
 
-    answer : openAnswer P d b u ≡ done n
-    answer =
-        ap (λ (x : Session). openWith P d b x) named
-        ∙ open-passes P d b w p pt on
-        long
-        (rw inner-length (says .short))
-        (field-start sig body (s .counter) (length p) id l)
-        (field-flags sig body (s .counter) (length p) id l)
-        known free plain
-        (field-size sig body (s .counter) (length p) id l (omega (arith, says .short)) ∙ sym inner-length)
-        ∙ ap (λ (i : ℕ). walk p i) id-back
-        ∙ says .walked
+-- One seal and one opening, which is lent what the seal left
+pub opens : (P : Primitives) (sound : Sound P) (d : Connection) (key : Bytes) (id : ℕ) (m : Bytes) (w : Lent) (n : ℕ)
+    → id < 2 ^ 64 → SealedAs P (cipherUsed d) key id m (w .message) n → encrypts d ≡ true → d .constrained ≡ false
+    → let s = recordOf id (w .table) in
+    s .used ≡ true → (s .guest || s .anonymous) ≡ false → openingKey (d .role) (s .keys) ≡ key
+    → (answer P (opening d) w ≡ done n) × (inner ((left P (opening d) w) .message) ≡ inner m)
+unfolding tests openTests effect
+opens P sound d key id m w n fits says on free known plain opening-key =
+    (answered, ap (λ (x : Lent). inner (x .message)) (left-done P (opening d) w n answered) ∙ opened-inner b (inner m) _ text (f .checks .long))
+  where
+    b : Bytes
+    b = w .message
 
-    buffer : inner (openBuffer P (done n) d b u) ≡ p
-    buffer = opened-inner b p (plaintext P d b (recordOf (sessionIdOf b) u)) (ap (λ (x : Session). plaintext P d b x) named ∙ pt) long
+    s : Session
+    s = recordOf id (w .table)
+
+    f : Finds P d id (inner m) b s
+    f = finds P sound d key id m b s n fits says on opening-key
+
+    -- the record that the header names
+    taken : recordOf (sessionIdOf b) (w .table) ≡ s
+    taken = ap (λ (i : ℕ). recordOf i (w .table)) (f .named)
+
+    text : plaintext P d b (recordOf (sessionIdOf b) (w .table)) ≡ some (inner m)
+    text = ap (plaintext P d b) taken ∙ f .text
+
+    passed : None ((openTests P d b (recordOf (sessionIdOf b) (w .table))) .before)
+    passed = rw taken (open-passes P d b s (inner m) (f .checks) known free plain (f .text) (f .size))
+
+    visited : Walked (Option·getD (plaintext P d b (recordOf (sessionIdOf b) (w .table))) []) (record { id = sessionIdOf b }) n
+    visited = rw (text, f .named) (says .walked)
+
+    answered : answer P (opening d) w ≡ done n
+    answered = done-of (tests P (opening d) w) n (record { lines = passed; visits = visited; later-lines = no-line })

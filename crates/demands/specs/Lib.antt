@@ -1,8 +1,10 @@
-pub mod Chains
-pub mod Demand3
 pub mod Lines
 pub mod Walk
 pub mod Demand1
 pub mod Opening
 pub mod Demand2
+pub mod Chains
+pub mod Steps
+pub mod Demand3
 pub mod OtherRecords
+pub mod UnderKey

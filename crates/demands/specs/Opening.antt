@@ -1,28 +1,27 @@
--- Demand 2, opening: every listed check, one field for one check, with the number that document 01 gives where it fails.
+-- Demand 2, opening: every listed check, one field for one check, with the number that the rules gives where it fails.
 -- Of the suite: what `encrypt` and `tag` are is said in Demand2.
 -- Assumes nothing.
 use mathlib.Core.Path.{_≡_}
 use mathlib.Core.Logic.{_≢_, _⊎_}
 use mathlib.Core.Bool.{true, false}
-use mathlib.Core.List.{List, [], _∷_}
+use mathlib.Core.List.{[], _∷_}
 use Prim.Native.Nat.{ℕ, _≤_, _<_}
 use lib.ListN.{length, take}
 use Rattle.protocol.specs.Bytes.{Bytes}
+use Rattle.protocol.specs.Connection.{Connection, cipherUsed}
 use Rattle.protocol.specs.TransformHeader.{inner, signatureOf, nonceField, authenticatedOf, originalMessageSize, flagsOf, sessionIdOf}
-use Rattle.protocol.specs.SessionTable.{Session, recordOf}
-use Rattle.protocol.specs.UnderKey.{Protection, cipherUsed}
-use Rattle.protocol.specs.Transform.{Connection, openingKey}
+use Rattle.protocol.specs.SessionTable.{Session, openingKey}
 use Rattle.protocol.specs.Suite.{ciphers}
 use Rattle.demands.specs.Walk.{Walked}
 
 -- not 1
-pub record Encrypts (c : Protection) : Type 0 where
+pub record Encrypts (c : Connection) : Type 0 where
   pub dialect-known : (c .dialect ≡ 0x0300) ⊎ ((c .dialect ≡ 0x0302) ⊎ (c .dialect ≡ 0x0311))
   pub on : c .encryption ≡ true
   pub some-cipher : c .cipher ≢ 0
   pub cipher-known : c .dialect ≡ 0x0311 → (c .cipher ≡ 1) ⊎ (c .cipher ≡ 2)
 
-pub record HeaderChecks (c : Protection) (m : Bytes) : Type 0 where
+pub record HeaderChecks (c : Connection) (m : Bytes) : Type 0 where
   -- not 1
   pub encrypts : Encrypts c
   -- not 2
@@ -43,7 +42,7 @@ pub record Carries (cipher : ℕ) (key m text : Bytes) : Type 0 where
   pub size : originalMessageSize m ≡ length (inner m)
 
 -- under one given key: the message m opens to the text, with n inner headers
-pub record OpensUnderKey (c : Protection) (key : Bytes) (id : ℕ) (m : Bytes) (n : ℕ) : Type 0 where
+pub record OpensUnderKey (c : Connection) (key : Bytes) (id : ℕ) (m : Bytes) (n : ℕ) : Type 0 where
   -- not 40
   pub key-fits : length key ≡ 16
   -- not 1 to 5
@@ -54,12 +53,12 @@ pub record OpensUnderKey (c : Protection) (key : Bytes) (id : ℕ) (m : Bytes) (
   -- not 9, 10
   pub carried : Carries (cipherUsed c) key m text
   -- not 11 to 16
-  pub walked : Walked text id n
+  pub walked : Walked text (record { id = id }) n
 
 -- with the table; s is the record that lookup takes
 pub record OpensWithRecord (c : Connection) (m : Bytes) (s : Session) (n : ℕ) : Type 0 where
   -- not 1 to 5
-  pub header : HeaderChecks (c .protection) m
+  pub header : HeaderChecks c m
   -- not 6
   pub known : s .used ≡ true
   -- not 7
@@ -69,9 +68,6 @@ pub record OpensWithRecord (c : Connection) (m : Bytes) (s : Session) (n : ℕ) 
   pub not-anonymous : s .anonymous ≡ false
   pub text : Bytes
   -- not 9, 10
-  pub carried : Carries (cipherUsed (c .protection)) (openingKey (c .role) (s .keys)) m text
+  pub carried : Carries (cipherUsed c) (openingKey (c .role) (s .keys)) m text
   -- not 11 to 16
-  pub walked : Walked text (sessionIdOf m) n
-
-abbrev pub OpensWithTable : Connection → Bytes → List Session → ℕ → Type 0
-OpensWithTable c m t n = OpensWithRecord c m (recordOf (sessionIdOf m) t) n
+  pub walked : Walked text (record { id = sessionIdOf m }) n

@@ -1,26 +1,20 @@
 -- Laws of GCM for the layer above: lengths, and that decryption undoes encryption.
 -- Assumes nothing.
 use mathlib.Core.Path.{_≡_, sym, ap, _∙_}
-use mathlib.Core.Bool.{Bool, true, false, cond}
 use mathlib.Core.List.{List}
-use mathlib.Core.Option.{none, some}
+use mathlib.Core.Option.{some}
 use Prim.Native.Nat.{ℕ}
-use native.Mathlib.Omega.{arith}
 use lib.ListN.{length}
 use Rattle.octets.specs.Numbers.{toBigEndian}
 use Rattle.octets.specs.Same.{sameBytes}
 use Rattle.octets.proofs.NumberLaws.{length-toBigEndian}
 use Rattle.octets.proofs.XorWith.{length-xor}
+use Rattle.octets.proofs.MaybeLaws.{given-by}
 use Rattle.octets.proofs.SameLaws.{same-self}
 use Rattle.ctr.specs.Ctr.{counterBlocks}
 use Rattle.ctr.proofs.CtrLaws.{length-ctr, ctr-twice}
 use Rattle.ghash.specs.Ghash.{ghash}
 use Rattle.gcm.specs.Gcm.{encrypt, hashSubkey, hashInput, preCounterBlock, tag, decrypt}
-
--- where the test passed, the text is what it gives
-given-by : (b : Bool) (p q : List ℕ) → cond b (some p) none ≡ some q → p ≡ q
-given-by true p q e = cc
-given-by false p q e = absurd (let z : _≡_ {A = ℕ} 0 1 = cc in omega arith)
 
 module _ (E : List ℕ → List ℕ) (nonce : List ℕ) where
   pub length-encrypt : (text : List ℕ) → length (encrypt E nonce text) ≡ length text
@@ -47,4 +41,4 @@ module _ (E : List ℕ → List ℕ) (nonce : List ℕ) where
       pub encrypts-again : (text : List ℕ) → decrypt E nonce aad t body ≡ some text → encrypt E nonce text ≡ body
       unfolding decrypt
       encrypts-again text e =
-          ap (encrypt E nonce) (sym (given-by (sameBytes t (tag E nonce aad body)) (encrypt E nonce body) text e)) ∙ encrypt-twice body
+          ap (encrypt E nonce) (sym (given-by (sameBytes t (tag E nonce aad body)) (encrypt E nonce body) text e .1)) ∙ encrypt-twice body

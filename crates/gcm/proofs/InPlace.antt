@@ -6,7 +6,7 @@ use mathlib.Core.List.{List}
 use Prim.Native.Nat.{ℕ}
 use Rattle.octets.specs.Same.{sameBytes}
 use Rattle.gcm.specs.Gcm.{encrypt, tag, decrypt}
-use Rattle.gcm.specs.Calls.{Sealed, Opened}
+use Rattle.gcm.specs.Contracts.{Sealed, Opened}
 
 pub sealed : (E : List ℕ → List ℕ) (nonce aad text text′ t : List ℕ) → text′ ≡ encrypt E nonce text → t ≡ tag E nonce aad text′
     → Sealed E nonce aad text text′ t

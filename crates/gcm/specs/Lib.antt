@@ -1,2 +1,2 @@
 pub mod Gcm
-pub mod Calls
+pub mod Contracts

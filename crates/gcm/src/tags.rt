@@ -2,20 +2,20 @@
 ghost use mathlib.Core.Path.{_≡_};
 ghost use Prim.Native.Nat.{ℕ, _<_};
 ghost use lib.ListN.{length};
-ghost use Rattle.aes.specs.Words.{SubMixTable};
+ghost use Rattle.aes.specs.Tables.{SubMixTable};
 ghost use Rattle.octets.specs.Numbers.{toBigEndian};
-ghost use Rattle.ctr.specs.BlockCipher.{blockCipher};
+ghost use Rattle.aes.specs.BlockCipher.{blockCipher};
 ghost use Rattle.ghash.specs.Ghash.{ghash};
 ghost use Rattle.ghash.specs.Elements.{Prepared};
-ghost use Rattle.gcm.specs.Gcm.{hashSubkey, hashInput, preCounterBlock, tag};
-ghost use Rattle.gcm.specs.Calls.{longest};
+ghost use Rattle.gcm.specs.Gcm.{hashSubkey, hashInput, tag};
+ghost use Rattle.gcm.specs.Contracts.{longest};
 
 // Step 1: H, ready for GHASH.
-fn hash_subkey(t: &[u32; 256], keys: &[[u8; 16]]) -> ghash::HashKey
-    requires { ⌜ (1 < length (now keys)) × SubMixTable (now t) ⌝ }
-    ensures { λ r. ⌜ Prepared r (hashSubkey (blockCipher (now (keys .entry)))) ⌝ }
+fn hash_subkey(t: &[u32; 256], keys: [[u8; 16]; 11]) -> ghash::HashKey
+    requires { ⌜ SubMixTable (now t) ⌝ }
+    ensures { λ r. ⌜ Prepared r (hashSubkey (blockCipher keys)) ⌝ }
 {
-    ghash::prepare(aes::encrypt_with(t, keys, [0u8; 16]))
+    ghash::prepare(aes::encrypt_block(t, keys, [0u8; 16]))
 }
 
 // Step 5: S. The lengths are in bits.
@@ -29,27 +29,20 @@ fn hash(k: ghash::HashKey, aad: &[u8], body: &[u8]) -> [u8; 16]
     ghash::block_of(s)
 }
 
-// Steps 2 and 6: E (J₀).
-fn encrypt_pre_counter(t: &[u32; 256], keys: &[[u8; 16]], nonce: [u8; 12]) -> [u8; 16]
-    requires { ⌜ (1 < length (now keys)) × SubMixTable (now t) ⌝ }
-    ensures { λ r. ⌜ r ≡ blockCipher (now (keys .entry)) (preCounterBlock nonce) ⌝ }
-{
-    aes::encrypt_with(t, keys, ctr::counter_block(nonce, 1))
-}
-
 // The tag of the ciphertext `body`.
 pub fn tag_with(
     t: &[u32; 256],
-    keys: &[[u8; 16]],
+    keys: [[u8; 16]; 11],
     nonce: [u8; 12],
     aad: &[u8],
     body: &[u8],
 ) -> [u8; 16]
-    requires { ⌜ (1 < length (now keys)) × SubMixTable (now t) × (length (now aad) < longest) × (length (now body) < longest) ⌝ }
-    ensures { λ r. ⌜ r ≡ tag (blockCipher (now (keys .entry))) nonce (now (aad .entry)) (now (body .entry)) ⌝ }
+    requires { ⌜ SubMixTable (now t) × (length (now aad) < longest) × (length (now body) < longest) ⌝ }
+    ensures { λ r. ⌜ r ≡ tag (blockCipher keys) nonce (now (aad .entry)) (now (body .entry)) ⌝ }
 {
     let k = hash_subkey(t, keys);
     let s = hash(k, aad, body);
-    let e = encrypt_pre_counter(t, keys, nonce);
+    // J₀ is the nonce and the number 1 (steps 2 and 6).
+    let e = aes::encrypt_counter(t, keys, nonce, 1);
     runs::xor_16(s, e)
 }

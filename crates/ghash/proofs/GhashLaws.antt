@@ -8,11 +8,11 @@ use lib.Bits.{bitXor}
 use lib.ListN.{length, length-append}
 use Rattle.octets.specs.Numbers.{bigEndian, toBigEndian}
 use Rattle.octets.specs.Blocks.{blockCount, padded, overBlocks}
-use Rattle.octets.proofs.BlockLaws.{over-append, over-padded, length-padded}
+use Rattle.octets.proofs.BlockLaws.{zeroPadded-exact, over-append, over-padded, length-padded}
 use Rattle.ghash.specs.Field.{mul}
 use Rattle.ghash.specs.Ghash.{step, ghashFrom}
 use Rattle.ghash.specs.Elements.{join}
-use Rattle.ghash.proofs.ByteLaws.{zeroPadded-exact, length-pair, pair-is}
+use Rattle.octets.proofs.Pairs.{length-pair, pair-is}
 
 module _ (h y : ℕ) where
   -- whole blocks a, then b

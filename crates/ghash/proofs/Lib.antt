@@ -1,4 +1,3 @@
 pub mod FieldLaws
 pub mod WordLaws
-pub mod ByteLaws
 pub mod GhashLaws

@@ -32,7 +32,9 @@ module _ (k : List ℕ) (n x : ℕ) (e : length k ≡ n) where
       let z : i ≡ 0 + i = omega arith in
       let size = ls in
       paste-turn k 0 s l i i _ el z (omega arith) (omega arith)
-      (sym (getD-xorWith (λ j. getD (replicate n x) j 0) 0 k i (omega arith) ∙ ap (bitXor (getD k i 0)) (ap (λ (j : ℕ). getD (replicate n x) j 0) (sym z) ∙ getD-replicate n i x 0 h)))
+      (sym
+      (getD-xorWith (λ j. getD (replicate n x) j 0) 0 k i (omega arith)
+      ∙ ap (bitXor (getD k i 0)) (ap (λ (j : ℕ). getD (replicate n x) j 0) (sym z) ∙ getD-replicate n i x 0 h)))
 
   -- after the last turn
   pub xored : paste k 0 s n ≡ s

@@ -1,3 +1,3 @@
 pub mod NumberLaws
 pub mod PlaceLaws
-pub mod TableLaws
+pub mod LabelLaws

@@ -17,7 +17,8 @@ pub begun : (place : Bytes) → length place ≡ 64 → Written 0 [] place
 begun place l = record { size = l; front = refl }
 
 -- 16 bytes more
-pub further : (n : ℕ) (s before key after : Bytes) → Written n s before → n + 16 ≤ 64 → 16 ≡ length key → after ≡ paste before n key (length key) → Written (n + 16) (s ++ key) after
+pub further : (n : ℕ) (s before key after : Bytes) → Written n s before → n + 16 ≤ 64 → 16 ≡ length key → after ≡ paste before n key (length key)
+    → Written (n + 16) (s ++ key) after
 further n s before key after w inside l e =
     let b = w .size in
     record {

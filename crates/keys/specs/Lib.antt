@@ -1,1 +1,1 @@
-pub mod Derivation
+pub mod Reading

@@ -1,15 +1,15 @@
 // The caller's place for the keys.
-use crate::table::Keys;
+use crate::labels::Keys;
 use runs::copy;
 ghost use mathlib.Core.Path.{_≡_};
 ghost use lib.ListN.{length};
 ghost use Rattle.protocol.specs.Keys.{keysInOrder};
-ghost use Rattle.keys.specs.Derivation.{of};
+ghost use Rattle.keys.specs.Reading.{keysOf};
 
 // The four keys in the order of the table.
 pub fn write(place: &mut [u8], keys: Keys)
     requires { ⌜ length (now place) ≡ 64 ⌝ }
-    ensures { λ _. ⌜ now (place .exit) ≡ keysInOrder (of keys) ⌝ }
+    ensures { λ _. ⌜ now (place .exit) ≡ keysInOrder (keysOf keys) ⌝ }
 {
     let signing = keys.signing;
     let application = keys.application;

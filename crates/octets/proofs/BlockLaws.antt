@@ -3,11 +3,11 @@
 use mathlib.Core.Path.{_≡_, refl, sym, ap, ap₂, _∙_}
 use mathlib.Core.List.{List, [], _∷_, _++_}
 use Prim.Native.Nat.{ℕ, zero, suc, _+_, _*_, _-_, _<_, _≤_, min}
-use native.Mathlib.Nat.{zero-add, suc-add, add-zero, add-suc}
+use native.Mathlib.Nat.{zero-add, suc-add, add-zero, add-suc, le-of-eq}
 use native.Mathlib.Numerals.{add-one}
 use native.Mathlib.Omega.{arith}
 use lib.ListN.{length, take, drop, replicate, length-drop}
-use lib.Seq.{drop-append-le, drop-append-add, drop-nil}
+use lib.Seq.{drop-append-le, drop-append-add, drop-nil, take-all}
 use Rattle.octets.specs.Blocks.{zeroPadded, block, blockCount, padded, overBlocks}
 
 pub length-zeroPadded : (n : ℕ) (xs : List ℕ) → length (zeroPadded n xs) ≡ n
@@ -15,6 +15,16 @@ unfolding zeroPadded
 length-zeroPadded zero xs = refl
 length-zeroPadded (suc n) [] = ap suc (length-zeroPadded n [])
 length-zeroPadded (suc n) (x ∷ xs) = ap suc (length-zeroPadded n xs)
+
+pub zeroPadded-whole : (n : ℕ) (xs : List ℕ) → n ≤ length xs → zeroPadded n xs ≡ take n xs
+unfolding zeroPadded
+zeroPadded-whole zero xs h = refl
+zeroPadded-whole (suc n) [] h = absurd (omega arith)
+zeroPadded-whole (suc n) (x ∷ xs) h = ap (λ (r : List ℕ). x ∷ r) (zeroPadded-whole n xs (omega arith))
+
+-- what fills the places exactly stays as it is
+pub zeroPadded-exact : (n : ℕ) (xs : List ℕ) → length xs ≡ n → zeroPadded n xs ≡ xs
+zeroPadded-exact n xs h = zeroPadded-whole n xs (le-of-eq (sym h)) ∙ take-all n xs (le-of-eq h)
 
 -- a run of zeros whose first m bytes were replaced
 pub zeros-replaced : (n : ℕ) (xs : List ℕ) (m : ℕ) → m ≡ min (length xs) n → take m xs ++ drop m (replicate n 0) ≡ zeroPadded n xs

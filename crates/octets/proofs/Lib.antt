@@ -1,3 +1,4 @@
+pub mod BoolLaws
 pub mod BitXor
 pub mod XorWith
 pub mod Paste
@@ -6,3 +7,5 @@ pub mod Elements
 pub mod NumberLaws
 pub mod BlockLaws
 pub mod SameLaws
+pub mod Pairs
+pub mod MaybeLaws

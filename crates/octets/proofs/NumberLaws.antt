@@ -2,11 +2,11 @@
 -- Assumes nothing.
 use mathlib.Core.Path.{_≡_, refl, sym, ap, ap₂, _∙_}
 use mathlib.Core.List.{List, [], _∷_, _++_, append-assoc, append-nil}
-use Prim.Native.Nat.{ℕ, zero, suc, _+_, _-_, _*_, _/_, _%_, _^_, _<_, _≤_}
+use Prim.Native.Nat.{ℕ, zero, suc, _+_, _*_, _/_, _%_, _^_, _<_, _≤_}
 use native.Mathlib.Nat.{zero-add, add-zero, add-suc, add-assoc, add-mul, mul-assoc, mul-comm, mul-one, pow-suc, div-one}
 use native.Mathlib.Numerals.{add-one}
 use native.Mathlib.Omega.{arith}
-use lib.Pow.{shr-shr, field, mod-mod-pow}
+use lib.Pow.{shr-shr, shr-lt, field, mod-mod-pow}
 use lib.ListN.{length, getD, take, drop, length-append}
 use lib.Seq.{drop-cons, drop-drop, take-add}
 use Rattle.octets.specs.Numbers.{bigEndianAfter, bigEndian, toBigEndian, littleEndian, toLittleEndian, bytesAt}
@@ -30,6 +30,10 @@ big-after n (x ∷ xs) =
     ∙ ap (λ (k : ℕ). k + x * p) (mul-assoc n 256 p ∙ ap (λ (k : ℕ). n * k) (mul-comm 256 p ∙ sym (pow-suc 256 (length xs)))))
     ∙ add-assoc (n * 256 ^ suc (length xs)) (x * p) (bigEndian xs)
     ∙ ap (λ (k : ℕ). n * 256 ^ suc (length xs) + k) (sym (big-after x xs) ∙ ap (λ (k : ℕ). bigEndianAfter k xs) (sym (zero-add x)))
+
+-- bytes behind others
+pub big-joined : (xs ys : List ℕ) → bigEndian (xs ++ ys) ≡ bigEndian xs * 256 ^ length ys + bigEndian ys
+big-joined xs ys = big-append 0 xs ys ∙ big-after (bigEndian xs) ys
 
 -- one byte, and those behind it
 big-step : (n p q acc : ℕ) (xs : List ℕ) → q ≡ p + 1 → p < length xs
@@ -94,6 +98,18 @@ big-low (suc j) x =
     ∙ ap₂ (λ (y z : ℕ). toBigEndian j y ++ (z ∷ [])) (field x (j * 8) 8) (mod-mod-pow x (j * 8) 8)
     ∙ ap (λ (l : List ℕ). l ++ (x % 256 ∷ [])) (big-low j (x / 256))
 
+-- a number that k bytes hold is the one that they write
+pub big-back : (k x : ℕ) → x < 2 ^ (k * 8) → bigEndian (toBigEndian k x) ≡ x
+unfolding bigEndianAfter toBigEndian
+big-back zero x h = omega arith
+big-back (suc k) x h =
+    let e : suc k * 8 ≡ k * 8 + 8 = omega arith in
+    let l : x < 2 ^ (k * 8 + 8) = rw e at h in
+    let d : x / 256 * 256 + x % 256 ≡ x = omega arith in
+    big-append 0 (toBigEndian k (x / 256)) (x % 256 ∷ [])
+    ∙ ap (λ (n : ℕ). n * 256 + x % 256) (big-back k (x / 256) (shr-lt (k * 8) 8 l))
+    ∙ d
+
 -- ---- the lowest byte first
 
 little-step : (xs : List ℕ) (p q n : ℕ) → q ≡ suc p → p < length xs
@@ -111,17 +127,17 @@ little2-is xs p h =
 pub little4-is : (xs : List ℕ) (p : ℕ) → p + 4 ≤ length xs
     → littleEndian (bytesAt p 4 xs) ≡ littleEndian (bytesAt p 2 xs) + 65536 * littleEndian (bytesAt (p + 2) 2 xs)
 little4-is xs p h =
-    let a : littleEndian (bytesAt p 4 xs) ≡ getD xs p 0 + 256 * littleEndian (bytesAt (p + 1) 3 xs) = little-step xs p (p + 1) 3 (omega arith) (omega arith) in
-    let b : littleEndian (bytesAt (p + 1) 3 xs) ≡ getD xs (p + 1) 0 + 256 * littleEndian (bytesAt (p + 2) 2 xs) = little-step xs (p + 1) (p + 2) 2 (omega arith) (omega arith) in
+    let a = little-step xs p (p + 1) 3 (omega arith) (omega arith) in
+    let b = little-step xs (p + 1) (p + 2) 2 (omega arith) (omega arith) in
     omega (arith, little2-is xs p (omega arith))
 
 pub little8-is : (xs : List ℕ) (p : ℕ) → p + 8 ≤ length xs
     → littleEndian (bytesAt p 8 xs) ≡ littleEndian (bytesAt p 4 xs) + 4294967296 * littleEndian (bytesAt (p + 4) 4 xs)
 little8-is xs p h =
-    let a : littleEndian (bytesAt p 8 xs) ≡ getD xs p 0 + 256 * littleEndian (bytesAt (p + 1) 7 xs) = little-step xs p (p + 1) 7 (omega arith) (omega arith) in
-    let b : littleEndian (bytesAt (p + 1) 7 xs) ≡ getD xs (p + 1) 0 + 256 * littleEndian (bytesAt (p + 2) 6 xs) = little-step xs (p + 1) (p + 2) 6 (omega arith) (omega arith) in
-    let c : littleEndian (bytesAt (p + 2) 6 xs) ≡ getD xs (p + 2) 0 + 256 * littleEndian (bytesAt (p + 3) 5 xs) = little-step xs (p + 2) (p + 3) 5 (omega arith) (omega arith) in
-    let d : littleEndian (bytesAt (p + 3) 5 xs) ≡ getD xs (p + 3) 0 + 256 * littleEndian (bytesAt (p + 4) 4 xs) = little-step xs (p + 3) (p + 4) 4 (omega arith) (omega arith) in
+    let a = little-step xs p (p + 1) 7 (omega arith) (omega arith) in
+    let b = little-step xs (p + 1) (p + 2) 6 (omega arith) (omega arith) in
+    let c = little-step xs (p + 2) (p + 3) 5 (omega arith) (omega arith) in
+    let d = little-step xs (p + 3) (p + 4) 4 (omega arith) (omega arith) in
     let e : p + 2 + 1 ≡ p + 3 = omega arith in
     let f : getD xs (p + 2 + 1) 0 ≡ getD xs (p + 3) 0 = ap (λ (i : ℕ). getD xs i 0) e in
     omega (arith, little4-is xs p (omega arith), little2-is xs p (omega arith), little2-is xs (p + 2) (omega arith))

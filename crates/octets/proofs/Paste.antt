@@ -7,7 +7,7 @@ use native.Mathlib.Nat.{add-zero, add-assoc, le-of-eq}
 use native.Mathlib.Numerals.{add-one}
 use native.Mathlib.Omega.{arith}
 use lib.ListN.{length, getD, set, take, drop, replicate, drop-of-length-le, length-take, length-drop, length-replicate, replicate-append-replicate}
-use lib.Seq.{paste, paste-suc, take-paste, drop-paste, drop-drop, getD-drop, take-length, take-add, take-all, take-at, drop-at}
+use lib.Seq.{paste, paste-suc, take-paste, drop-paste, length-paste, drop-drop, getD-drop, take-length, take-add, take-all, take-at, drop-at}
 use Rattle.octets.specs.Numbers.{bytesAt}
 
 -- the element that the next turn replaces is d's
@@ -20,7 +20,9 @@ paste-next d at s l j p e q hd hs =
     ∙ ap (λ (y : ℕ). getD d y 0) (add-zero (at + j) ∙ sym q)
 
 -- a turn
-pub paste-turn : (d : List ℕ) (at : ℕ) (s l : List ℕ) (j p v : ℕ) → l ≡ paste d at s j → p ≡ at + j → p < length d → j < length s → v ≡ getD s j 0 → set l p v ≡ paste d at s (j + 1)
+pub paste-turn : (d : List ℕ) (at : ℕ) (s l : List ℕ) (j p v : ℕ) → l ≡ paste d at s j → p ≡ at + j → p < length d → j < length s
+    → v ≡ getD s j 0
+    → set l p v ≡ paste d at s (j + 1)
 paste-turn d at s l j p v e q hd hs ev =
     rw (e, q, ev) (paste-suc d at s j 0 (omega arith) hs) ∙ ap (paste d at s) (sym (add-one j))
 
@@ -28,6 +30,17 @@ paste-turn d at s l j p v e q hd hs ev =
 pub paste-all : (d : List ℕ) (at : ℕ) (s : List ℕ) → length d ≤ at + length s → paste d at s (length s) ≡ take at d ++ s
 paste-all d at s h =
     rw (take-length s, drop-of-length-le d h) (append-nil (take at d ++ s))
+
+-- two runs, copied one behind the other into an array that they fill
+pub two-runs : (d a b r s : List ℕ) (n : ℕ) → length a ≡ n → length d ≡ n + length b
+    → r ≡ paste d 0 a (length a)
+    → s ≡ paste r n b (length b)
+    → s ≡ a ++ b
+two-runs d a b r s n la h er es =
+    let z : 0 + length a ≡ n = omega arith in
+    let front : take n r ≡ a = ap₂ take (sym z) er ∙ take-paste d 0 a (length a) (omega arith) (omega arith) ∙ take-length a in
+    let l : length r ≡ length d = ap length er ∙ length-paste d 0 a (length a) (omega arith) (omega arith) in
+    es ∙ paste-all r n b (omega arith) ∙ ap (λ (x : List ℕ). x ++ b) front
 
 -- a replacement in two pieces: m more elements, of a t that s goes on with
 pub paste-more : (d : List ℕ) (at : ℕ) (s t : List ℕ) (i m : ℕ) → at ≤ length d → i ≤ length s → take m t ≡ take m (drop i s)

@@ -1,13 +1,14 @@
 -- `sameBytes` decides equality.
 -- Assumes nothing.
 use mathlib.Core.Path.{_≡_, refl, sym, ap, ap₂, _∙_}
-use mathlib.Core.Bool.{Bool, true, false, _&&_}
+use mathlib.Core.Bool.{Bool, true, false}
 use mathlib.Core.List.{List, [], _∷_}
 use Prim.Native.Nat.{ℕ}
 use native.Mathlib.Omega.{arith}
 use borrow.Author.Tests.{eq-eqb, eqb-true}
 use lib.Bits.{bitXor, bitOr, or-add-and, and-le-l, and-le-r}
 use lib.Dec.{eqb}
+use Rattle.octets.proofs.BoolLaws.{and-true}
 use Rattle.octets.specs.Same.{sameBytes}
 use Rattle.octets.proofs.BitXor.{xor-undo}
 
@@ -16,17 +17,13 @@ unfolding sameBytes
 same-self [] = refl
 same-self (x ∷ xs) = rw (eq-eqb x x refl) (same-self xs)
 
-both : (a b : Bool) → (a && b) ≡ true → (a ≡ true) × (b ≡ true)
-both true b e = (refl, e)
-both false b e = absurd (let z : _≡_ {A = ℕ} 0 1 = cc in omega arith)
-
 pub same-equal : (xs ys : List ℕ) → sameBytes xs ys ≡ true → xs ≡ ys
 unfolding sameBytes
 same-equal [] [] e = refl
 same-equal [] (y ∷ ys) e = absurd (let z : _≡_ {A = ℕ} 0 1 = cc in omega arith)
 same-equal (x ∷ xs) [] e = absurd (let z : _≡_ {A = ℕ} 0 1 = cc in omega arith)
 same-equal (x ∷ xs) (y ∷ ys) e =
-    let b = both (eqb x y) (sameBytes xs ys) e in
+    let b = and-true (eqb x y) (sameBytes xs ys) e in
     ap₂ (λ (a : ℕ) (l : List ℕ). a ∷ l) (eqb-true x y (b .0)) (same-equal xs ys (b .1))
 
 -- two tests that hold together are one

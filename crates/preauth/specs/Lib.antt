@@ -1,1 +1,1 @@
-pub mod Foldings
+pub mod Reading

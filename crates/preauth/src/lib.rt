@@ -1,4 +1,4 @@
-// The preauthentication integrity hash: messages folded into a chain value (document 01, "Chain").
+// The preauthentication integrity hash: messages folded into a chain value (RULES 8).
 use little_endian::u32_at;
 use runs::copy;
 use sha512::Sha512;
@@ -7,41 +7,43 @@ ghost use mathlib.Core.Bool.{true};
 ghost use mathlib.Core.List.{_++_};
 ghost use Prim.Native.Nat.{_≤_};
 ghost use lib.ListN.{length};
-ghost use Rattle.protocol.specs.Preauth.{FoldKind, negotiateMessage, setupRequest, setupResponse, admitted, longestMessage, moreProcessing, statusAllows, foldNumber};
+ghost use Rattle.protocol.specs.Answer.{answerNumber, carried};
+ghost use Rattle.protocol.specs.Connection.{longestMessage};
+ghost use Rattle.protocol.specs.Preauth.{FoldKind, negotiateMessage, setupRequest, setupResponse, admitted, moreProcessing, statusAllows};
+ghost use Rattle.protocol.specs.Calls.{folding, onlyChain};
+ghost use Rattle.protocol.specs.Contract.{Makes};
 ghost use Rattle.protocol.specs.Suite.{sha512};
-ghost use Rattle.preauth.specs.Foldings.{answerOf, foldedAfter, Folds};
-
-const LONGEST_MESSAGE: usize = 1048576;
+ghost use Rattle.preauth.specs.Reading.{foldAnswerOf};
 
 // STATUS_MORE_PROCESSING_REQUIRED
 const MORE_PROCESSING: u32 = 0xC0000016;
 
 // What folding answers. "Not folded" is a done answer, with that mark.
-pub enum Folding {
-    FoldedIn,
+pub enum FoldAnswer {
+    Folded,
     NotFolded,
     Refused(u32),
 }
 
 // The number that a caller gets.
-pub fn number(f: Folding) -> u32
-    ensures { λ r. ⌜ r ≡ foldNumber (answerOf f) ⌝ }
+pub fn number(a: FoldAnswer) -> u32
+    ensures { λ r. ⌜ r ≡ answerNumber (foldAnswerOf a) ⌝ }
 {
-    match f {
-        Folding::FoldedIn => 0,
-        Folding::NotFolded => 0,
-        Folding::Refused(n) => n,
+    match a {
+        FoldAnswer::Folded => 0,
+        FoldAnswer::NotFolded => 0,
+        FoldAnswer::Refused(n) => n,
     }
 }
 
 // What the caller's place for the mark holds afterwards: 1 folded, 0 not folded.
-pub fn folded_after(f: Folding, lent: u32) -> u32
-    ensures { λ r. ⌜ r ≡ foldedAfter (answerOf f) lent ⌝ }
+pub fn folded_to(a: FoldAnswer, lent: u32) -> u32
+    ensures { λ r. ⌜ r ≡ carried (foldAnswerOf a) lent ⌝ }
 {
-    match f {
-        Folding::FoldedIn => 1,
-        Folding::NotFolded => 0,
-        Folding::Refused(_) => lent,
+    match a {
+        FoldAnswer::Folded => 1,
+        FoldAnswer::NotFolded => 0,
+        FoldAnswer::Refused(_) => lent,
     }
 }
 
@@ -49,7 +51,7 @@ pub fn folded_after(f: Folding, lent: u32) -> u32
 fn admits(message: &[u8]) -> bool
     ensures { λ r. ⌜ r ≡ admitted (now (message .entry)) ⌝ }
 {
-    (64 <= message.len()) & (message.len() <= LONGEST_MESSAGE)
+    (64 <= message.len()) & (message.len() <= connection::longest_message())
 }
 
 // The status of a message that is long enough to have one.
@@ -71,35 +73,35 @@ fn next_value(old: &[u8], message: &[u8]) -> [u8; 64]
 }
 
 // Folds a message whose status allows it or not. The status of a message that 23 refuses counts for nothing.
-fn fold_if(chain: &mut [u8], message: &[u8], allowed: bool) -> Folding
+fn fold_if(chain: &mut [u8], message: &[u8], allowed: bool) -> FoldAnswer
     ensures { λ r. ⌜ ((kind : FoldKind) → (admitted (now (message .entry)) ≡ true → allowed ≡ statusAllows kind (now (message .entry)))
-        → Folds kind (now (chain .entry)) (now (message .entry)) r (now (chain .exit))) ⌝ }
+        → Makes (folding kind (now (message .entry))) (onlyChain (now (chain .entry))) (foldAnswerOf r) (onlyChain (now (chain .exit)))) ⌝ }
 {
     if chain.len() != 64 {
-        return Folding::Refused(40);
+        return FoldAnswer::Refused(40);
     }
     if !admits(message) {
-        return Folding::Refused(23);
+        return FoldAnswer::Refused(23);
     }
     if !allowed {
-        return Folding::NotFolded;
+        return FoldAnswer::NotFolded;
     }
     let value = next_value(chain, message);
     copy(chain, 0, &value);
-    Folding::FoldedIn
+    FoldAnswer::Folded
 }
 
 // A negotiate message or a session setup request: always folded.
-pub fn fold(chain: &mut [u8], message: &[u8]) -> Folding
-    ensures { λ r. ⌜ Folds negotiateMessage (now (chain .entry)) (now (message .entry)) r (now (chain .exit))
-        × Folds setupRequest (now (chain .entry)) (now (message .entry)) r (now (chain .exit)) ⌝ }
+pub fn fold(chain: &mut [u8], message: &[u8]) -> FoldAnswer
+    ensures { λ r. ⌜ Makes (folding negotiateMessage (now (message .entry))) (onlyChain (now (chain .entry))) (foldAnswerOf r) (onlyChain (now (chain .exit)))
+        × Makes (folding setupRequest (now (message .entry))) (onlyChain (now (chain .entry))) (foldAnswerOf r) (onlyChain (now (chain .exit))) ⌝ }
 {
     fold_if(chain, message, true)
 }
 
 // A session setup response: folded only if its status asks for more.
-pub fn fold_response(chain: &mut [u8], message: &[u8]) -> Folding
-    ensures { λ r. ⌜ Folds setupResponse (now (chain .entry)) (now (message .entry)) r (now (chain .exit)) ⌝ }
+pub fn fold_response(chain: &mut [u8], message: &[u8]) -> FoldAnswer
+    ensures { λ r. ⌜ Makes (folding setupResponse (now (message .entry))) (onlyChain (now (chain .entry))) (foldAnswerOf r) (onlyChain (now (chain .exit))) ⌝ }
 {
     fold_if(chain, message, asks_for_more(message))
 }

@@ -6,10 +6,10 @@ use lib.ListN.{length, length-append}
 use Rattle.octets.specs.Numbers.{littleEndian, toLittleEndian}
 use Rattle.octets.specs.Same.{sameBytes}
 use Rattle.protocol.specs.Bytes.{Bytes}
-use Rattle.protocol.specs.CompoundWalk.{walk}
+use Rattle.protocol.specs.Compound.{walk}
 use Rattle.protocol.specs.Keys.{smbC2SCipherKey, derivationInput, derivedKeys}
 use Rattle.protocol.specs.TransformHeader.{nonceOf}
-use Rattle.protocol.specs.Transform.{openWith}
+use Rattle.protocol.specs.Calls.{tests, openTests}
 use Rattle.protocol.specs.PLines.{PLines}
 use Rattle.protocol.proofs.SuiteLaws.{kdf-of-document}
 
@@ -19,7 +19,7 @@ unfolding derivationInput smbC2SCipherKey
 hashed chain l = simp length-append (omega arith)
 
 pub p-lines : PLines
-unfolding walk openWith nonceOf littleEndian toLittleEndian sameBytes derivedKeys
+unfolding walk tests openTests nonceOf littleEndian toLittleEndian sameBytes derivedKeys
 p-lines =
     record {
       P1 = refl;

@@ -6,22 +6,22 @@ use mathlib.Core.Option.{some}
 use Prim.Native.Nat.{ℕ}
 use lib.Dec.{eqb, lit≤}
 use lib.ListN.{length, take}
-use Rattle.octets.specs.Numbers.{toBigEndian}
 use Rattle.aes.specs.KeyExpansion.{keyExpansion}
 use Rattle.aes.proofs.Lengths.{length-cipher}
 use Rattle.sha2.specs.Sha2.{hash}
 use Rattle.sha2.specs.Sha512 as sha2
 use Rattle.sha2.specs.Sha256.{sha256}
+use Rattle.sha2.proofs.Lengths.{length-hash}
 use Rattle.hmac.specs.Hmac.{hmac}
-use Rattle.kdf.specs.CounterMode.{derive, deriveSha256, blocks, block, fixedInput}
+use Rattle.kdf.specs.CounterMode.{deriveSha256}
+use Rattle.kdf.proofs.CounterModeLaws.{of-bytes, length-derived}
 use Rattle.ccm.proofs.CcmLaws as ccm-laws
 use Rattle.gcm.proofs.GcmLaws as gcm-laws
 use Rattle.protocol.specs.Bytes.{Bytes}
 use Rattle.protocol.specs.Keys.{derivationInput}
 use Rattle.protocol.specs.Sound.{Sound}
-use Rattle.ciphers.specs.ByNumber.{aes128, ccmNonce, gcmNonce, Cipher, aes128Ccm, aes128Gcm, cipherOf}
+use Rattle.protocol.specs.Ciphers.{aes128, ccmNonce, gcmNonce, Cipher, aes128Ccm, aes128Gcm, cipherOf}
 use Rattle.protocol.specs.Suite.{suite, sha512, kdf}
-use Rattle.protocol.proofs.HashLengths.{length-hash, length-derived}
 
 -- ---- each part is what its own crate defines
 
@@ -35,8 +35,8 @@ kdf-is key label context = refl
 
 -- "the first 16 bytes of HMAC-SHA-256 .. over: 00 00 00 01, label, 00, context, 00 00 00 80"
 pub kdf-of-document : (key label context : Bytes) → kdf key label context ≡ take 16 (hmac sha256 key (derivationInput label context))
-unfolding suite derive blocks block fixedInput toBigEndian derivationInput
-kdf-of-document key label context = refl
+unfolding suite derivationInput
+kdf-of-document key label context = of-bytes key label context
 
 -- ---- what is relied on
 

@@ -1,18 +1,12 @@
--- The four keys of a session: document 01, "Keys"; MS-SMB2 3.1.4.2 and 3.2.5.3.1.
+-- The four keys of a session: RULES 7; MS-SMB2 3.1.4.2 and 3.2.5.3.1.
 -- `kdf` is a parameter here: from key, label and context to 16 bytes. The suite puts SP 800-108 in counter mode in its place.
 -- Assumes nothing.
-use mathlib.Core.Bool.{Bool, cond, not, _||_}
-use mathlib.Core.List.{List, [], _∷_, _++_}
+use mathlib.Core.Bool.{cond}
+use mathlib.Core.List.{[], _∷_, _++_}
 use Prim.Native.Nat.{ℕ}
 use lib.Dec.{eqb}
-use lib.ListN.{length}
 use Rattle.octets.specs.Blocks.{zeroPadded}
 use Rattle.protocol.specs.Bytes.{Bytes}
-use Rattle.protocol.specs.Answer.{Test, refuse_when_, firstOf}
-
--- document 01, "What the library covers": "dialects 3.0 (0x0300), 3.0.2 (0x0302), 3.1.1 (0x0311)"
-abbrev pub knownDialect : ℕ → Bool
-knownDialect d = eqb d 0x0300 || eqb d 0x0302 || eqb d 0x0311
 
 -- "first 16 bytes of the material given, padded right with zeros"
 abbrev pub sessionKey : Bytes → Bytes
@@ -81,7 +75,7 @@ pub record Keys : Type 0 where
   pub clientToServer : Bytes
   pub serverToClient : Bytes
 
--- document 01, "Numbers a caller can get back": "writes the four keys in the order of the table"
+-- RULES 2: "writes the four keys in the order of the table"
 abbrev pub keysInOrder : Keys → Bytes
 keysInOrder k = k .signing ++ (k .application ++ (k .clientToServer ++ k .serverToClient))
 
@@ -109,21 +103,3 @@ module _ (kdf : Bytes → Bytes → Bytes → Bytes) where
   -- from the dialect, the chain value and the session key
   unfoldable pub derivedKeys : ℕ → Bytes → Bytes → Keys
   derivedKeys dialect chain key = cond (eqb dialect 0x0311) (keys311 chain key) (keys300 key)
-
--- ---- derivation alone: dialect, chain value, key material, the place for the keys
-
--- "Derivation alone tests 18 and 19", and 40 before them
-abbrev pub deriveTests : ℕ → Bytes → Bytes → Bytes → List Test
-deriveTests dialect chain material place =
-    (refuse 40 when not (eqb (length chain) 64) || not (eqb (length place) 64))
-    ∷ (refuse 18 when not (knownDialect dialect))
-    ∷ (refuse 19 when eqb (length material) 0)
-    ∷ []
-
-unfoldable pub deriveNumber : ℕ → Bytes → Bytes → Bytes → ℕ
-deriveNumber dialect chain material place = firstOf (deriveTests dialect chain material place)
-
--- what the place holds afterwards
-abbrev pub keysAfter : (Bytes → Bytes → Bytes → Bytes) → ℕ → Bytes → Bytes → Bytes → Bytes
-keysAfter kdf dialect chain material place =
-    cond (eqb (deriveNumber dialect chain material place) 0) (keysInOrder (derivedKeys kdf dialect chain (sessionKey material))) place

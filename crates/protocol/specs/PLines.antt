@@ -1,4 +1,4 @@
--- The P lines of document 01, "Sums to check by hand", as a single list under one statement.
+-- The P lines of RULES 13, as a single list under one statement.
 -- What a line does not name is in order; P5 to P11 speak of number 11 and the walk's rules alone.
 -- Assumes nothing.
 use mathlib.Core.Path.{_≡_}
@@ -11,11 +11,13 @@ use Rattle.sha2.specs.Sha256.{sha256}
 use Rattle.hmac.specs.Hmac.{hmac}
 use Rattle.protocol.specs.Bytes.{Bytes}
 use Rattle.protocol.specs.Answer.{done, refused}
-use Rattle.protocol.specs.CompoundWalk.{walk}
+use Rattle.protocol.specs.Connection.{Connection, server}
+use Rattle.protocol.specs.InnerHeader.{Envelope}
+use Rattle.protocol.specs.Compound.{walk}
 use Rattle.protocol.specs.Keys.{smbC2SCipherKey, derivationInput, derivedKeys}
 use Rattle.protocol.specs.SessionTable.{Session, zeroKeys}
 use Rattle.protocol.specs.TransformHeader.{nonceOf}
-use Rattle.protocol.specs.Transform.{Connection, server, openAnswer}
+use Rattle.protocol.specs.Calls.{opening, messageAndTable, answer}
 use Rattle.protocol.specs.Suite.{suite, kdf}
 
 -- an inner header: its flags, next command and session id
@@ -31,24 +33,27 @@ transform first size flags =
 
 -- a server with 3.1.1, encryption on and GCM
 abbrev pub onServer : Bool → Connection
-onServer constrained = record { role = server; protection = record { dialect = 0x0311; encryption = true; cipher = 2 }; constrained = constrained }
+onServer constrained = record { role = server; dialect = 0x0311; encryption = true; cipher = 2; constrained = constrained }
 
 -- a table with session 5
 abbrev pub tableOf : Bool → List Session
 tableOf guest = record { used = true; id = 5; guest = guest; anonymous = false; keys = zeroKeys; counter = 0 } ∷ []
 
+abbrev pub session5 : Envelope
+session5 = record { id = 5 }
+
 pub record PLines : Type 0 where
-  pub P1 : openAnswer suite (onServer false) (transform 0xFD 0 1) (tableOf false) ≡ refused 2
-  pub P2 : openAnswer suite (onServer false) (transform 0xFE 1 1 ++ (0 ∷ [])) (tableOf false) ≡ refused 4
-  pub P3 : openAnswer suite (onServer false) (transform 0xFD 1 0 ++ (0 ∷ [])) [] ≡ refused 5
-  pub P4 : openAnswer suite (onServer true) (transform 0xFD 1 1 ++ (0 ∷ [])) (tableOf true) ≡ refused 7
-  pub P5 : walk (replicate 63 0) 5 ≡ refused 11
-  pub P6 : walk (header 0 0 5) 5 ≡ done 1
-  pub P7 : walk (header 0 64 5 ++ header 4 0 9) 5 ≡ done 2
-  pub P8 : walk (header 0 65 5 ++ header 4 0 9) 5 ≡ refused 15
-  pub P9 : walk (header 0 68 5 ++ (replicate 8 0 ++ header 4 0 9)) 5 ≡ refused 16
-  pub P10 : walk (header 0 64 5 ++ replicate 63 0) 5 ≡ refused 15
-  pub P11 : walk (header 0 4294967288 5 ++ header 4 0 9) 5 ≡ refused 15
+  pub P1 : answer suite (opening (onServer false)) (messageAndTable (transform 0xFD 0 1) (tableOf false)) ≡ refused 2
+  pub P2 : answer suite (opening (onServer false)) (messageAndTable (transform 0xFE 1 1 ++ (0 ∷ [])) (tableOf false)) ≡ refused 4
+  pub P3 : answer suite (opening (onServer false)) (messageAndTable (transform 0xFD 1 0 ++ (0 ∷ [])) []) ≡ refused 5
+  pub P4 : answer suite (opening (onServer true)) (messageAndTable (transform 0xFD 1 1 ++ (0 ∷ [])) (tableOf true)) ≡ refused 7
+  pub P5 : walk (replicate 63 0) session5 ≡ refused 11
+  pub P6 : walk (header 0 0 5) session5 ≡ done 1
+  pub P7 : walk (header 0 64 5 ++ header 4 0 9) session5 ≡ done 2
+  pub P8 : walk (header 0 65 5 ++ header 4 0 9) session5 ≡ refused 15
+  pub P9 : walk (header 0 68 5 ++ (replicate 8 0 ++ header 4 0 9)) session5 ≡ refused 16
+  pub P10 : walk (header 0 64 5 ++ replicate 63 0) session5 ≡ refused 15
+  pub P11 : walk (header 0 4294967288 5 ++ header 4 0 9) session5 ≡ refused 15
   pub P12 : (key chain : Bytes) → length chain ≡ 64
       → ((derivedKeys kdf 0x0311 chain key) .clientToServer ≡ take 16 (hmac sha256 key (derivationInput smbC2SCipherKey chain)))
       × (length (derivationInput smbC2SCipherKey chain) ≡ 89)

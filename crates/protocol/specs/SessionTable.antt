@@ -1,13 +1,13 @@
--- The session table: document 01, "What the library covers" and "Keys", and its numbers 18 to 22, 6 and 40.
+-- The session table: RULES 10.
 -- Assumes nothing.
 use mathlib.Core.Bool.{Bool, true, false, cond, not, _&&_, _||_}
 use mathlib.Core.List.{List, [], _∷_}
-use Prim.Native.Nat.{ℕ}
-use lib.Dec.{eqb}
-use lib.ListN.{length, replicate}
+use Prim.Native.Nat.{ℕ, _+_}
+use lib.Dec.{leb, eqb}
+use lib.ListN.{replicate}
 use Rattle.protocol.specs.Bytes.{Bytes}
-use Rattle.protocol.specs.Answer.{Test, refuse_when_, firstOf}
-use Rattle.protocol.specs.Keys.{Keys, knownDialect, sessionKey, derivedKeys}
+use Rattle.protocol.specs.Connection.{Role, client, server, other, lastCounter}
+use Rattle.protocol.specs.Keys.{Keys, sessionKey, derivedKeys}
 
 -- "a lent run of session records: used or free, id, guest, anonymous, four 16-byte keys, 64-bit send counter"
 pub record Session : Type 0 where
@@ -32,6 +32,14 @@ freeRecord =
 abbrev pub withCounter : ℕ → Session → Session
 withCounter n s = record { used = s .used; id = s .id; guest = s .guest; anonymous = s .anonymous; keys = s .keys; counter = n }
 
+-- "A client seals with the first cipher key and opens with the second; a server the other way round."
+abbrev pub sealingKey : Role → Keys → Bytes
+sealingKey client k = k .clientToServer
+sealingKey server k = k .serverToClient
+
+abbrev pub openingKey : Role → Keys → Bytes
+openingKey r k = sealingKey (other r) k
+
 -- ---- "Lookup takes the first used record with the id"
 
 abbrev pub isSession : ℕ → Session → Bool
@@ -46,6 +54,10 @@ recordOf i (s ∷ t) = cond (isSession i s) s (recordOf i t)
 abbrev pub changeRecord : (Session → Session) → ℕ → List Session → List Session
 changeRecord f i [] = []
 changeRecord f i (s ∷ t) = cond (isSession i s) (f s ∷ t) (s ∷ changeRecord f i t)
+
+-- "Removing makes the first used record of that id free and all zero"
+abbrev pub removeRecord : ℕ → List Session → List Session
+removeRecord i t = changeRecord (λ s. freeRecord) i t
 
 -- ---- "Adding uses the first free record, with counter 0."
 
@@ -67,20 +79,6 @@ pub record Adding : Type 0 where
   pub guest : Bool
   pub anonymous : Bool
 
--- "adding 18 to 22", and 40 before them
-abbrev pub addTests : Adding → List Session → List Test
-addTests a t =
-    (refuse 40 when not (eqb (length (a .chain)) 64))
-    ∷ (refuse 18 when not (knownDialect (a .dialect)))
-    ∷ (refuse 19 when eqb (length (a .material)) 0)
-    ∷ (refuse 20 when eqb (a .id) 0)
-    ∷ (refuse 21 when (recordOf (a .id) t) .used)
-    ∷ (refuse 22 when not (hasFree t))
-    ∷ []
-
-unfoldable pub addNumber : Adding → List Session → ℕ
-addNumber a t = firstOf (addTests a t)
-
 -- "Guest and anonymous records hold zero cipher keys."
 abbrev pub keysHeld : Bool → Keys → Keys
 keysHeld true k = record { signing = k .signing; application = k .application; clientToServer = zeroKey; serverToClient = zeroKey }
@@ -99,13 +97,12 @@ module _ (kdf : Bytes → Bytes → Bytes → Bytes) where
         counter = 0;
       }
 
-  abbrev pub tableAfterAdding : Adding → List Session → List Session
-  tableAfterAdding a t = cond (eqb (addNumber a t) 0) (fillFree (newRecord a) t) t
+-- ---- the counter
 
--- ---- "Removing makes the first used record of that id free and all zero, or answers 6 if there is none"
+-- "The counter goes up by one and nothing else in the table changes."
+abbrev pub countUp : Session → Session
+countUp s = withCounter (s .counter + 1) s
 
-abbrev pub removeNumber : ℕ → List Session → ℕ
-removeNumber i t = firstOf ((refuse 6 when not ((recordOf i t) .used)) ∷ [])
-
-abbrev pub tableAfterRemoving : ℕ → List Session → List Session
-tableAfterRemoving i t = changeRecord (λ s. freeRecord) i t
+-- the counter step by itself: up by that many, and unchanged where it would pass the last
+unfoldable pub counterStep : ℕ → Session → Session
+counterStep by s = cond (leb (s .counter + by) lastCounter) (withCounter (s .counter + by) s) s

@@ -5,7 +5,7 @@ use mathlib.Core.Option.{some}
 use Prim.Native.Nat.{ℕ}
 use lib.ListN.{length}
 use Rattle.protocol.specs.Bytes.{Bytes}
-use Rattle.protocol.specs.UnderKey.{Primitives}
+use Rattle.protocol.specs.Transform.{Primitives}
 
 pub record Sound (P : Primitives) : Type 0 where
   pub hash-length : (s : Bytes) → length (P .sha512 s) ≡ 64

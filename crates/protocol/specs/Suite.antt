@@ -1,11 +1,11 @@
--- The suite: the primitives that document 01, "What the library covers" and "Ciphers", names, out of their own crates' definitions.
+-- The suite: the primitives that RULES 1 and 6 name, out of their own crates' definitions.
 -- Assumes nothing.
 use Rattle.sha2.specs.Sha2.{hash}
 use Rattle.sha2.specs.Sha512 as sha2
 use Rattle.kdf.specs.CounterMode.{deriveSha256}
-use Rattle.ciphers.specs.ByNumber.{cipherOf}
 use Rattle.protocol.specs.Bytes.{Bytes}
-use Rattle.protocol.specs.UnderKey.{Ciphers, Primitives}
+use Rattle.protocol.specs.Ciphers.{cipherOf}
+use Rattle.protocol.specs.Transform.{Ciphers, Primitives}
 
 unfoldable pub suite : Primitives
 suite =

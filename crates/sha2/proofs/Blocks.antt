@@ -26,7 +26,8 @@ module _ (p : Sha2) where
       (ap (λ (x : List ℕ). take B x) (drop-append-le (n * B) a b h₁) ∙ take-append-le B (drop (n * B) a) b h₂)
 
   -- first those of a, then those of b
-  blocks-append : (hs : List ℕ) (i j : ℕ) (a b : List ℕ) → length a ≡ i * blockSize p → hashBlocks p hs (i + j) (a ++ b) ≡ hashBlocks p (hashBlocks p hs i a) j b
+  blocks-append : (hs : List ℕ) (i j : ℕ) (a b : List ℕ) → length a ≡ i * blockSize p
+      → hashBlocks p hs (i + j) (a ++ b) ≡ hashBlocks p (hashBlocks p hs i a) j b
   unfolding hashBlocks
   blocks-append hs i zero a b e = ap (λ (n : ℕ). hashBlocks p hs n (a ++ b)) (add-zero i) ∙ blocks-within hs i a b (le-of-eq (sym e))
   blocks-append hs i (suc j) a b e =

@@ -6,3 +6,5 @@ pub mod Blocks
 pub mod Padding
 pub mod Streaming
 pub mod Loops
+pub mod Lengths
+pub mod PublishedExamples

@@ -26,9 +26,9 @@ module _ (p : Sha2) where
   unfolding parse
   parsing-start block w e = record { bound = omega arith; size = e; words = refl }
 
-  pub parsing-turn : {block w : List ℕ} {i : ℕ} (x : ℕ) → Parsing p block w i → i < 16 → x ≡ bigEndian (bytesAt (i * p .bytes) (p .bytes) block)
+  pub parsing-turn : {block w : List ℕ} {i x : ℕ} → Parsing p block w i → i < 16 → x ≡ bigEndian (bytesAt (i * p .bytes) (p .bytes) block)
       → Parsing p block (set w i x) (i + 1)
-  parsing-turn {block} {w} {i} x s h e =
+  parsing-turn {block} {w} {i} {x} s h e =
       record {
         bound = omega arith;
         size = length-set w i x ∙ s .size;
@@ -88,9 +88,9 @@ module _ (p : Sha2) where
   pub last-start : (w k : List ℕ) (v : Working) → length w ≡ 16 + p .further → k ≡ p .constants → Last p w k v v (p .further)
   last-start w k v e ek = record { bound = omega arith; size = e; constants = ek; state = λ x h. h }
 
-  pub last-turn : {w k : List ℕ} {v₀ v : Working} {j : ℕ} (v′ : Working) → Last p w k v₀ v j → j < 16 + p .further
+  pub last-turn : {w k : List ℕ} {v₀ v v′ : Working} {j : ℕ} → Last p w k v₀ v j → j < 16 + p .further
       → v′ ≡ round p (getD k j 0) (getD w j 0) v → Last p w k v₀ v′ (j + 1)
-  last-turn {w} {k} {v₀} {v} {j} v′ s h e =
+  last-turn {w} {k} {v₀} {v} {v′} {j} s h e =
       record {
         bound = omega arith;
         size = s .size;
@@ -117,9 +117,9 @@ module _ (p : Sha2) where
   unfolding hashBlocks
   taking-start hs m k ek = record { bound = omega arith; count = refl; constants = ek; value = refl }
 
-  pub taking-turn : {hs m k h : List ℕ} {n i : ℕ} (h′ : List ℕ) → Taking p hs m k n h i → i < n
+  pub taking-turn : {hs m k h h′ : List ℕ} {n i : ℕ} → Taking p hs m k n h i → i < n
       → h′ ≡ compress p h (take (i * blockSize p + blockSize p - i * blockSize p) (drop (i * blockSize p) m)) → Taking p hs m k n h′ (i + 1)
-  taking-turn {hs} {m} {k} {h} {n} {i} h′ s l e =
+  taking-turn {hs} {m} {k} {h} {h′} {n} {i} s l e =
       record {
         bound = omega arith;
         count = s .count;
@@ -144,10 +144,10 @@ module _ (p : Sha2) where
   unfolding digest
   digesting-start hs out e = record { bound = omega arith; size = e; words = ap (λ (n : ℕ). take n out) (zero-mul (p .bytes)) }
 
-  pub digesting-turn : {hs out : List ℕ} {i : ℕ} (out′ b : List ℕ) → Digesting p hs out i → (i + 1) * p .bytes ≤ 8 * p .bytes
+  pub digesting-turn : {hs out out′ b : List ℕ} {i : ℕ} → Digesting p hs out i → (i + 1) * p .bytes ≤ 8 * p .bytes
       → i < 8 → b ≡ toBigEndian (p .bytes) (getD hs i 0) → out′ ≡ paste out (i * p .bytes) b (length b) → length out′ ≡ length out
       → Digesting p hs out′ (i + 1)
-  digesting-turn {hs} {out} {i} out′ b s r l eb eo el =
+  digesting-turn {hs} {out} {out′} {b} {i} s r l eb eo el =
       record {
         bound = omega arith;
         size = el ∙ s .size;

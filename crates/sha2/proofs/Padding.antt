@@ -20,14 +20,14 @@ zeros-after part k =
 
 module _ (p : Sha2) where
   -- part, then the byte 128, then at the end of the last block the length
-  pub padded : (part t₁ t₂ t₃ field : List ℕ) (size end n : ℕ) → end ≡ length part + (1 + zeros p n + 2 * p .bytes) → end ≤ size
+  pub padded : {t₁ t₂ t₃ field : List ℕ} {end : ℕ} (part : List ℕ) (size n : ℕ) → end ≡ length part + (1 + zeros p n + 2 * p .bytes) → end ≤ size
       → t₁ ≡ paste (replicate size 0) 0 part (length part)
       → t₂ ≡ set t₁ (length part) 128
       → field ≡ toBigEndian (2 * p .bytes) (8 * n)
       → t₃ ≡ paste t₂ (end - 2 * p .bytes) field (length field)
       → take end t₃ ≡ part ++ padding p n
   unfolding padding
-  padded part t₁ t₂ t₃ field size end n ee he e₁ e₂ ef e₃ =
+  padded {t₁} {t₂} {t₃} {field} {end} part size n ee he e₁ e₂ ef e₃ =
       let k = length part in
       let z = zeros p n in
       let f = 2 * p .bytes in

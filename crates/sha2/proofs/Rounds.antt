@@ -30,7 +30,8 @@ module _ (p : Sha2) where
       → take ((j + 1) + 16) (set w (j + 16) (scheduleWord p (getD w j 0) (getD w (j + 1) 0) (getD w (j + 9) 0) (getD w (j + 14) 0))) ≡ extended p (j + 1) m
   unfolding extended
   word-more m w j e h g =
-      let at : (q : ℕ) → q < 16 → getD w (j + q) 0 ≡ getD (extended p j m) (j + q) 0 = λ q hq. sym (getD-take (j + 16) w (j + q) 0 (omega arith)) ∙ ap (λ (l : List ℕ). getD l (j + q) 0) g in
+      let at : (q : ℕ) → q < 16 → getD w (j + q) 0 ≡ getD (extended p j m) (j + q) 0 =
+      λ q hq. sym (getD-take (j + 16) w (j + q) 0 (omega arith)) ∙ ap (λ (l : List ℕ). getD l (j + q) 0) g in
       let at0 : getD w j 0 ≡ getD (extended p j m) j 0 = sym (getD-take (j + 16) w j 0 (omega arith)) ∙ ap (λ (l : List ℕ). getD l j 0) g in
       let x = scheduleWord p (getD w j 0) (getD w (j + 1) 0) (getD w (j + 9) 0) (getD w (j + 14) 0) in
       let e1 : (j + 1) + 16 ≡ suc (j + 16) = omega arith in
@@ -55,11 +56,11 @@ module _ (p : Sha2) where
   round-more ws constants j v v′ x ev ek e = e ∙ rw (add-one, ev, ek)
 
   -- round j, and the word of the schedule sixteen places on
-  pub goes-one : (constants w : List ℕ) (j y : ℕ) (v v′ : Working) → j < p .further → length w ≡ 16 + p .further → constants ≡ p .constants
+  pub goes-one : {constants w : List ℕ} {j y : ℕ} {v v′ : Working} → j < p .further → length w ≡ 16 + p .further → constants ≡ p .constants
       → y ≡ scheduleWord p (getD w j 0) (getD w (j + 1) 0) (getD w (j + 9) 0) (getD w (j + 14) 0)
       → v′ ≡ round p (getD constants j 0) (getD (set w (j + 16) y) j 0) v
       → Goes p 1 j w v (set w (j + 16) y) v′
-  goes-one constants w j y v v′ h size ek ey ev = record {
+  goes-one {constants} {w} {j} {y} {v} {v′} h size ek ey ev = record {
     goes = λ m x g.
         let b : j + 16 < length w = omega arith in
         let ws : List ℕ = extended p (p .further) m in
@@ -92,8 +93,8 @@ module _ (p : Sha2) where
       (ew, g .state ∙ ap₂ (λ (ws : List ℕ) (n : ℕ). rounds p ws n x) (sym ew) e)
 
   -- a block, from its words, its schedule and all rounds
-  pub compressed : (hs block w w′ r : List ℕ) (v v′ : Working) → take 16 w ≡ parse p 16 block → v ≡ working hs
+  pub compressed : {w′ r : List ℕ} {v v′ : Working} (hs block w : List ℕ) → take 16 w ≡ parse p 16 block → v ≡ working hs
       → w′ ≡ extended p (p .further) (take 16 w) → v′ ≡ rounds p w′ (16 + p .further) v → r ≡ sums p hs v′
       → r ≡ compress p hs block
   unfolding compress schedule
-  compressed hs block w w′ r v v′ em ev ew ev′ er = cc
+  compressed hs block w em ev ew ev′ er = cc

@@ -45,12 +45,16 @@ module _ (p : Sha2) where
         state = record { blocks = 0; whole = []; joined = sym (ap (λ (n : ℕ). take n buffer) (zero-mod B)); size = sym (zero-mul B); value = eh };
       }
 
+  -- how many bytes are past the whole blocks
+  pub length-part : (count : ℕ) (buffer : List ℕ) → 0 < B → length buffer ≡ B → length (take (count % B) buffer) ≡ count % B
+  length-part count buffer pos e = let h = mod-lt count pos in length-take-le (count % B) buffer (omega arith)
+
   -- a piece that does not fill the buffer
-  pub holds-within : {count : ℕ} {buffer hs m : List ℕ} (x buffer′ : List ℕ) (count′ : ℕ)
+  pub holds-within : {count : ℕ} {buffer hs m buffer′ : List ℕ} {count′ : ℕ} (x : List ℕ)
       → count′ ≡ (count + length x) % 2 ^ 64 → count′ % B ≡ count % B + length x → count % B + length x ≤ B
       → buffer′ ≡ paste buffer (count % B) x (length x) → length buffer′ ≡ B
       → Holds p count buffer hs m → Holds p count′ buffer′ hs (m ++ x)
-  holds-within {count} {buffer} {hs} {m} x buffer′ count′ ec en hn eb lb s =
+  holds-within {count} {buffer} {hs} {m} {buffer′} {count′} x ec en hn eb lb s =
       record {
         counted = counted-more x count′ s ec;
         room = lb;
@@ -61,7 +65,7 @@ module _ (p : Sha2) where
       }
 
   -- a piece that fills it: x₁ up to the end of the block, the whole blocks of the rest x₂, and x₃ that is left of it
-  pub holds-beyond : {count : ℕ} {buffer hs m : List ℕ} (x buffer₁ buffer₂ hs₁ hs₂ : List ℕ) (count′ : ℕ)
+  pub holds-beyond : {count : ℕ} {buffer hs m buffer₁ buffer₂ hs₁ hs₂ : List ℕ} {count′ : ℕ} (x : List ℕ)
       → let room : ℕ = B - count % B in
       let x₁ : List ℕ = take room x in
       let x₂ : List ℕ = from x room in
@@ -71,7 +75,7 @@ module _ (p : Sha2) where
       → hs₁ ≡ hashBlocks p hs (length buffer₁ / B) buffer₁ → hs₂ ≡ hashBlocks p hs₁ (length x₂ / B) x₂
       → buffer₂ ≡ paste buffer₁ 0 x₃ (length x₃) → length buffer₂ ≡ B
       → Holds p count buffer hs m → Holds p count′ buffer₂ hs₂ (m ++ x)
-  holds-beyond {count} {buffer} {hs} {m} x buffer₁ buffer₂ hs₁ hs₂ count′ pos ec en hr eb₁ lb₁ eh₁ eh₂ eb₂ lb₂ s =
+  holds-beyond {count} {buffer} {hs} {m} {buffer₁} {buffer₂} {hs₁} {hs₂} {count′} x pos ec en hr eb₁ lb₁ eh₁ eh₂ eb₂ lb₂ s =
       let room : ℕ = B - count % B in
       let x₁ : List ℕ = take room x in
       let x₂ : List ℕ = from x room in
@@ -107,7 +111,8 @@ module _ (p : Sha2) where
       sym (eh₂ ∙ ap (λ (l : List ℕ). hashBlocks p hs₁ q l) (sym j₂) ∙ blocks-within p hs₁ q (take whole x₂) x₃ (le-of-eq (sym lw))) in
       -- what is left stands in the buffer
       let f₂ : take (count′ % B) buffer₂ ≡ x₃ =
-      ap (λ (l : List ℕ). take (count′ % B) l) eb₂ ∙ filled buffer₁ x₃ 0 (count′ % B) (omega arith) (en ∙ ap (λ (i : ℕ). i % B) (sym l₂) ∙ sym l₃ ∙ omega arith) in
+      ap (λ (l : List ℕ). take (count′ % B) l) eb₂
+      ∙ filled buffer₁ x₃ 0 (count′ % B) (omega arith) (en ∙ ap (λ (i : ℕ). i % B) (sym l₂) ∙ sym l₃ ∙ omega arith) in
       let j : (m ++ x₁) ++ x₂ ≡ m ++ x =
       append-assoc m x₁ x₂ ∙ ap (λ (l : List ℕ). m ++ l) (ap (λ (l : List ℕ). x₁ ++ l) d₂ ∙ take-append-drop room x) in
       let s₅ : Hashed p hs₂ (take (count′ % B) buffer₂) ((m ++ x₁) ++ x₂) =
@@ -119,11 +124,11 @@ module _ (p : Sha2) where
       }
 
   -- the last bytes with their padding, in the first `end` bytes of t
-  pub holds-end : {count : ℕ} {buffer hs m : List ℕ} (t hs′ r : List ℕ) (end : ℕ) → 0 < B → padding p count ≡ padding p (length m)
+  pub holds-end : {count : ℕ} {buffer hs m hs′ r : List ℕ} (t : List ℕ) (end : ℕ) → 0 < B → padding p count ≡ padding p (length m)
       → take end t ≡ take (count % B) buffer ++ padding p count → end ≤ length t → end % B ≡ 0
       → hs′ ≡ hashBlocks p hs (length (take end t) / B) (take end t) → r ≡ digest p 8 hs′ → Holds p count buffer hs m → r ≡ hash p m
   unfolding hash pad
-  holds-end {count} {buffer} {hs} {m} t hs′ r end pos epad et le ee eh er s =
+  holds-end {count} {buffer} {hs} {m} {hs′} {r} t end pos epad et le ee eh er s =
       let x = padding p (length m) in
       let y = take end t in
       let e : y ≡ take (count % B) buffer ++ x = et ∙ ap (λ (l : List ℕ). take (count % B) buffer ++ l) epad in

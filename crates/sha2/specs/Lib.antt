@@ -2,4 +2,3 @@ pub mod Sha2
 pub mod Sha256
 pub mod Sha512
 pub mod Running
-pub mod Vectors

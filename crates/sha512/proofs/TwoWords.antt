@@ -12,9 +12,9 @@ use Rattle.octets.proofs.NumberLaws.{length-toBigEndian, big-split, big-low}
 use Rattle.octets.proofs.Paste.{paste-all}
 use Rattle.sha2.proofs.Streaming.{filled}
 
-pub two-words : (n : ℕ) (field₁ field₂ high low : List ℕ) → high ≡ toBigEndian 8 (n / 2 ^ 61) → low ≡ toBigEndian 8 (n * 2 ^ 3 % 2 ^ 64)
+pub two-words : {field₁ field₂ high low : List ℕ} (n : ℕ) → high ≡ toBigEndian 8 (n / 2 ^ 61) → low ≡ toBigEndian 8 (n * 2 ^ 3 % 2 ^ 64)
     → field₁ ≡ paste (replicate 16 0) 0 high (length high) → field₂ ≡ paste field₁ 8 low (length low) → field₂ ≡ toBigEndian 16 (8 * n)
-two-words n field₁ field₂ high low eh el e₁ e₂ =
+two-words {field₁} {field₂} {high} {low} n eh el e₁ e₂ =
     let lh : length high ≡ 8 = ap length eh ∙ length-toBigEndian 8 (n / 2 ^ 61) in
     let ll : length low ≡ 8 = ap length el ∙ length-toBigEndian 8 (n * 2 ^ 3 % 2 ^ 64) in
     let l₁ : length field₁ ≡ 16 = ap length e₁ ∙ length-paste (replicate 16 0) 0 high (length high) (omega arith) (le-refl (length high)) in

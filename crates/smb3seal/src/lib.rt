@@ -1,24 +1,9 @@
 // The calls from C: numbers and byte buffers. What each answers and leaves behind is said by include/smb3seal.h in words.
-ghost use mathlib.Core.Path.{_≡_};
-ghost use mathlib.Core.Bool.{true};
-ghost use Rattle.protocol.specs.Answer.{isRefused};
-ghost use Rattle.protocol.specs.Preauth.{negotiateMessage, setupRequest};
-ghost use Rattle.protocol.specs.UnderKey.{lastCounter, counterAfter};
-ghost use Rattle.compound.specs.Outcomes.{answerOf};
-ghost use Rattle.transform.specs.UnderKey.{protectionOf};
-ghost use Rattle.smb3seal.specs.Exports.{Derives, Folds, FoldsResponse, Seals, Opens};
-use compound::Outcome;
-
-// The counter handed back.
-fn counter_after(o: Outcome, lent: u64) -> u64
-    requires { ⌜ (lent ≡ lastCounter → isRefused (answerOf o) ≡ true) ⌝ }
-    ensures { λ r. ⌜ r ≡ counterAfter (answerOf o) lent ⌝ }
-{
-    if compound::refused(o) {
-        return lent;
-    }
-    lent + 1
-}
+ghost use Rattle.protocol.specs.Preauth.{negotiateMessage, setupRequest, setupResponse};
+ghost use Rattle.protocol.specs.Calls.{derivation, folding, sealingUnder, openingUnder, onlyMessage, messageAndCounter, onlyChain, onlyKeys};
+ghost use Rattle.protocol.specs.Contract.{Returns};
+ghost use Rattle.connection.specs.Reading.{underKey};
+ghost use Rattle.smb3seal.specs.Exports.{Reports};
 
 // Writes the four keys of a session.
 #[no_mangle]
@@ -28,7 +13,7 @@ pub extern "C" fn smb3seal_derive(
     chain: &[u8],
     keys: &mut [u8],
 ) -> u32
-    ensures { λ r. ⌜ Derives dialect (now (material .entry)) (now (chain .entry)) (now (keys .entry)) (now (keys .exit)) r ⌝ }
+    ensures { λ r. ⌜ Returns (derivation dialect (now (chain .entry)) (now (material .entry))) (onlyKeys (now (keys .entry))) r (onlyKeys (now (keys .exit))) ⌝ }
 {
     keys::derive(dialect, material, chain, keys)
 }
@@ -36,8 +21,8 @@ pub extern "C" fn smb3seal_derive(
 // Folds a negotiate message or a session setup request.
 #[no_mangle]
 pub extern "C" fn smb3seal_fold(chain: &mut [u8], message: &[u8]) -> u32
-    ensures { λ r. ⌜ Folds negotiateMessage (now (chain .entry)) (now (chain .exit)) (now (message .entry)) r
-        × Folds setupRequest (now (chain .entry)) (now (chain .exit)) (now (message .entry)) r ⌝ }
+    ensures { λ r. ⌜ Returns (folding negotiateMessage (now (message .entry))) (onlyChain (now (chain .entry))) r (onlyChain (now (chain .exit)))
+        × Returns (folding setupRequest (now (message .entry))) (onlyChain (now (chain .entry))) r (onlyChain (now (chain .exit))) ⌝ }
 {
     preauth::number(preauth::fold(chain, message))
 }
@@ -45,11 +30,11 @@ pub extern "C" fn smb3seal_fold(chain: &mut [u8], message: &[u8]) -> u32
 // Folds a session setup response, if its status asks for that.
 #[no_mangle]
 pub extern "C" fn smb3seal_fold_response(chain: &mut [u8], message: &[u8], folded: &mut u32) -> u32
-    ensures { λ r. ⌜ FoldsResponse (now (chain .entry)) (now (chain .exit)) (now (message .entry)) (now (folded .entry)) (now (folded .exit)) r ⌝ }
+    ensures { λ r. ⌜ Reports (folding setupResponse (now (message .entry))) (onlyChain (now (chain .entry))) r (onlyChain (now (chain .exit))) (now (folded .entry)) (now (folded .exit)) ⌝ }
 {
-    let folding = preauth::fold_response(chain, message);
-    *folded = preauth::folded_after(folding, *folded);
-    preauth::number(folding)
+    let answer = preauth::fold_response(chain, message);
+    *folded = preauth::folded_to(answer, *folded);
+    preauth::number(answer)
 }
 
 // Seals the message in place.
@@ -64,13 +49,14 @@ pub extern "C" fn smb3seal_seal(
     message: &mut [u8],
     headers: &mut u64,
 ) -> u32
-    ensures { λ r. ⌜ Seals (protectionOf dialect encryption cipher) (now (key .entry)) id (now (counter .entry)) (now (counter .exit)) (now (message .entry)) (now (message .exit)) (now (headers .entry)) (now (headers .exit)) r ⌝ }
+    ensures { λ r. ⌜ Reports (sealingUnder (underKey dialect encryption cipher) (now (key .entry)) id) (messageAndCounter (now (message .entry)) (now (counter .entry))) r (messageAndCounter (now (message .exit)) (now (counter .exit))) (now (headers .entry)) (now (headers .exit)) ⌝ }
 {
-    let k = *counter;
-    let sealed = transform::seal_under(dialect, encryption, cipher, key, k, id, message);
-    *counter = counter_after(sealed, k);
-    *headers = compound::headers_after(sealed, *headers);
-    compound::number(sealed)
+    let c = connection::under_key(dialect, encryption, cipher);
+    let sealed = transform::seal_under(c, key, *counter, id, message);
+    let answer = sealed.answer;
+    *counter = sealed.counter;
+    *headers = answer::carried_to(answer, *headers);
+    answer::number(answer)
 }
 
 // Opens the message in place.
@@ -84,9 +70,10 @@ pub extern "C" fn smb3seal_open(
     message: &mut [u8],
     headers: &mut u64,
 ) -> u32
-    ensures { λ r. ⌜ Opens (protectionOf dialect encryption cipher) (now (key .entry)) id (now (message .entry)) (now (message .exit)) (now (headers .entry)) (now (headers .exit)) r ⌝ }
+    ensures { λ r. ⌜ Reports (openingUnder (underKey dialect encryption cipher) (now (key .entry)) id) (onlyMessage (now (message .entry))) r (onlyMessage (now (message .exit))) (now (headers .entry)) (now (headers .exit)) ⌝ }
 {
-    let opened = transform::open_under(dialect, encryption, cipher, key, id, message);
-    *headers = compound::headers_after(opened, *headers);
-    compound::number(opened)
+    let c = connection::under_key(dialect, encryption, cipher);
+    let answer = transform::open_under(c, key, id, message);
+    *headers = answer::carried_to(answer, *headers);
+    answer::number(answer)
 }

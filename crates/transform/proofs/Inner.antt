@@ -10,9 +10,9 @@ use borrow.Rule.Slice.PartMut.{putMid}
 use Rattle.protocol.specs.Bytes.{Bytes}
 use Rattle.protocol.specs.Answer.{Answer, done, refused, whenDone}
 use Rattle.protocol.specs.TransformHeader.{inner}
-use Rattle.protocol.specs.UnderKey.{Protection}
+use Rattle.protocol.specs.Connection.{Connection}
 use Rattle.protocol.proofs.First.{First}
-use Rattle.transform.specs.Calls.{Sized}
+use Rattle.transform.specs.Steps.{Sized}
 
 module _ (m : Bytes) where
   pub lent : take (length m - 52) (drop 52 m) ≡ inner m
@@ -25,10 +25,10 @@ module _ (m : Bytes) where
       ∙ ap (λ (z : Bytes). take 52 m ++ z) (append-nil ys)
 
   -- what stands after the header is changed where the answer is done, and so is the message
-  pub when-inner : (a : Answer) (p : Bytes) → take 52 m ++ whenDone a p (inner m) ≡ whenDone a (take 52 m ++ p) m
+  pub when-inner : (a : Answer) (p : Bytes) → take 52 m ++ whenDone a (λ n. p) (inner m) ≡ whenDone a (λ n. take 52 m ++ p) m
   when-inner (done n) p = refl
   when-inner (refused n) p = take-append-drop 52 m
 
 -- what the first tests let pass
-pub sized : (c : Protection) (key m : Bytes) → First c key m → Sized m
+pub sized : (c : Connection) (key m : Bytes) → First c key m → Sized m
 sized c key m f = record { long = f .long; short = f .short }

@@ -1,4 +1,4 @@
-pub mod Runs
+pub mod ByNumber
 pub mod Inner
 pub mod Opening
 pub mod Sealing

@@ -1,58 +1,74 @@
-// Sealing and opening in place under one given key (document 01, "Transform header"; MS-SMB2 3.1.4.3, 3.2.5.1.1 and 3.3.5.2.1).
-mod fields;
-mod text;
+// Sealing and opening in place under one given key (RULES 4; MS-SMB2 3.1.4.3, 3.2.5.1.1 and 3.3.5.2.1).
+mod body;
+mod cipher;
 
-ghost use Rattle.compound.specs.Outcomes.{answerOf};
-ghost use Rattle.transform.specs.UnderKey.{protectionOf, OpensUnder, SealsUnder};
-use compound::Outcome;
+use answer::Answer;
+use answer::refuse;
+use compound::Envelope;
+use connection::Connection;
+ghost use mathlib.Core.Path.{_≡_};
+ghost use Rattle.protocol.specs.Calls.{sealingUnder, openingUnder, onlyMessage, messageAndCounter, answer};
+ghost use Rattle.protocol.specs.Suite.{suite};
+ghost use Rattle.protocol.specs.Contract.{Makes};
+ghost use Rattle.answer.specs.Reading.{answerOf};
+ghost use Rattle.connection.specs.Reading.{connectionOf};
 
-const LAST_COUNTER: u64 = 18446744073709551615;
+// What sealing gives: the answer, and the counter handed back.
+pub struct Sealed {
+    pub answer: Answer,
+    pub counter: u64,
+}
 
 // Opens the message in place: 40, 1 to 6, 9 to 16. Refused, the message is as it was lent.
-pub fn open_under(
-    dialect: u16,
-    encryption: u32,
-    cipher: u16,
-    key: &[u8],
-    id: u64,
-    message: &mut [u8],
-) -> Outcome
-    ensures { λ r. ⌜ OpensUnder (protectionOf dialect encryption cipher) (now (key .entry)) id (now (message .entry)) (now (message .exit)) (answerOf r) ⌝ }
+pub fn open_under(c: Connection, key: &[u8], id: u64, message: &mut [u8]) -> Answer
+    ensures { λ r. ⌜ Makes (openingUnder (connectionOf c) (now (key .entry)) id) (onlyMessage (now (message .entry))) (answerOf r) (onlyMessage (now (message .exit))) ⌝ }
 {
-    let number = transform_tests::open_under_number(dialect, encryption, cipher, key, id, message);
-    if number != 0 {
-        return Outcome::Refused(number);
+    let h = transform_header::read_header(message);
+    let line6 = refuse(6, !(h.session_id == id), 0);
+    let line4 = refusals::header_number(h, line6);
+    let line1 = refusals::message_number(c, message, line4);
+    let first = refusals::key_number(key, line1);
+    if first != 0 {
+        return Answer::Refused(first);
     }
-    let k = arrays::bytes_16(key, 0);
-    let used = transform_tests::cipher_used(dialect, encryption, cipher);
-    text::open_message(used, k, id, message)
+    let used = connection::cipher_used(c);
+    body::open_message(used, key, h, Envelope { id: id }, message)
+}
+
+// 40, 1, 2, 3, 11 to 16, 17: of a seal, all before a byte is written.
+fn seal_answer(c: Connection, key: &[u8], counter: u64, id: u64, message: &[u8]) -> Answer
+    ensures { λ r. ⌜ answerOf r ≡ answer suite (sealingUnder (connectionOf c) (now (key .entry)) id) (messageAndCounter (now (message .entry)) counter) ⌝ }
+{
+    let line1 = refusals::message_number(c, message, 0);
+    let first = refusals::key_number(key, line1);
+    if first != 0 {
+        return Answer::Refused(first);
+    }
+    let out = body::walk_inner(message, Envelope { id: id });
+    if answer::refused(out) {
+        return out;
+    }
+    if counter == connection::last_counter() {
+        return Answer::Refused(17);
+    }
+    out
 }
 
 // Seals the message in place: 40, 1, 2, 3, 11 to 16, 17. Refused, the message is as it was lent.
-pub fn seal_under(
-    dialect: u16,
-    encryption: u32,
-    cipher: u16,
-    key: &[u8],
-    counter: u64,
-    id: u64,
-    message: &mut [u8],
-) -> Outcome
-    ensures { λ r. ⌜ SealsUnder (protectionOf dialect encryption cipher) (now (key .entry)) id counter (now (message .entry)) (now (message .exit)) (answerOf r) ⌝ }
+pub fn seal_under(c: Connection, key: &[u8], counter: u64, id: u64, message: &mut [u8]) -> Sealed
+    ensures { λ r. ⌜ Makes (sealingUnder (connectionOf c) (now (key .entry)) id) (messageAndCounter (now (message .entry)) counter) (answerOf (r .answer)) (messageAndCounter (now (message .exit)) (r .counter)) ⌝ }
 {
-    let first = transform_tests::seal_under_number(dialect, encryption, cipher, key, message);
-    if first != 0 {
-        return Outcome::Refused(first);
+    let out = seal_answer(c, key, counter, id, message);
+    if answer::refused(out) {
+        return Sealed {
+            answer: out,
+            counter: counter,
+        };
     }
-    let out = text::walk_inner(message, id);
-    if compound::refused(out) {
-        return out;
+    let used = connection::cipher_used(c);
+    body::seal_message(used, key, counter, id, message);
+    Sealed {
+        answer: out,
+        counter: counter + 1,
     }
-    if counter == LAST_COUNTER {
-        return Outcome::Refused(17);
-    }
-    let k = arrays::bytes_16(key, 0);
-    let used = transform_tests::cipher_used(dialect, encryption, cipher);
-    text::seal_message(used, k, counter, id, message);
-    out
 }

@@ -1,29 +1,11 @@
--- Right because eleven round keys make ten rounds.
-use Prim.Native.Nat.{ℕ, _-_}
-use mathlib.Core.Path.{_≡_, _∙_, ap}
-use native.Mathlib.Omega.{arith}
-use lib.ListN.{length}
+-- Right because the columns of the block stand for the block.
 use borrow.Author.Needs.{needs}
-use Rattle.aes.specs.Cipher.{cipher}
+use Rattle.aes_rounds.proofs.CipherLaws.{named}
 use Rattle.aes.proofs.encrypt_block.Tie as tie
 use Rattle.aes.proofs.encrypt_block.Statement.{statement}
 
-table-requires : tie.Need-table-requires
-table-requires c κs = search needs
-
-slice-aggregate-encrypt-with : tie.Need-slice-aggregate-encrypt-with
-slice-aggregate-encrypt-with c = search needs
-
-encrypt-with-requires : tie.Need-encrypt-with-requires
-encrypt-with-requires c κs = search needs
-
 returns : tie.Need-returns
-returns c =
-    let keys = c .before .before .before .before .args .t1 in
-    let h : length keys ≡ 11 = search needs in
-    let e : length keys - 1 ≡ 10 = omega arith in
-    c .encrypt-with .ensures ∙ ap (λ (nr : ℕ). cipher nr keys (c .before .before .before .before .args .block)) e
+returns c = named _ _ (c .before .before .load .ensures) (c .before .encrypt .ensures) (c .store .ensures)
 
 pub encrypt-block-spec : {M : Type 1} → statement M
-encrypt-block-spec =
-    tie.close (tie.spec table-requires slice-aggregate-encrypt-with encrypt-with-requires returns)
+encrypt-block-spec = tie.close (tie.spec (λ c. search needs) (λ c κs. search needs) (λ c κs. search needs) (λ c κs. search needs) returns)

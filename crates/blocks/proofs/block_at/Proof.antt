@@ -18,29 +18,8 @@ Inv-loop s at r₀ m j₀ r j = (r ≡ paste (replicate 16 0) 0 (drop at s) j) �
 abbrev μ-loop : tie.MeasureT-loop
 μ-loop s at r₀ m j₀ r j = m - j
 
-sub-at-most-16 : tie.Need-sub-at-most-16 Inv-loop μ-loop
-sub-at-most-16 c = omega arith
-
-at-most-16-requires : tie.Need-at-most-16-requires Inv-loop μ-loop
-at-most-16-requires c κs = omega arith
-
 loop-holds : tie.Need-loop-holds Inv-loop μ-loop
 loop-holds c = (refl, omega arith, refl)
-
-add-r : tie.Need-add-r Inv-loop μ-loop
-add-r c = omega arith
-
-shared-slice-read-r : tie.Need-shared-slice-read-r Inv-loop μ-loop
-shared-slice-read-r c = omega arith
-
-array-write-r : tie.Need-array-write-r Inv-loop μ-loop
-array-write-r c = omega arith
-
-add-j : tie.Need-add-j Inv-loop μ-loop
-add-j c = omega arith
-
-loop-less : tie.Need-loop-less Inv-loop μ-loop
-loop-less c = omega arith
 
 loop-again : tie.Need-loop-again Inv-loop μ-loop
 loop-again c =
@@ -71,13 +50,13 @@ block-at-spec =
     (tie.spec
     Inv-loop
     μ-loop
-    sub-at-most-16
-    at-most-16-requires
+    (λ c. omega arith)
+    (λ c κs. omega arith)
     loop-holds
-    add-r
-    shared-slice-read-r
-    array-write-r
-    add-j
-    loop-less
+    (λ c. omega arith)
+    (λ c. omega arith)
+    (λ c. omega arith)
+    (λ c. omega arith)
+    (λ c. omega arith)
     loop-again
     returns)

@@ -10,7 +10,7 @@ use lib.ListN.{length}
 use Rattle.octets.specs.Blocks.{blockCount, overBlocks}
 use Rattle.octets.specs.Xor.{xor}
 use Rattle.octets.proofs.BlockLaws.{over-turn}
-use Rattle.ctr.specs.BlockCipher.{blockCipher}
+use Rattle.aes.specs.BlockCipher.{blockCipher}
 use Rattle.cbc_mac.specs.CbcMac.{cbcMac}
 use Rattle.cbc_mac.proofs.chain.Statement.{statement}
 use Rattle.cbc_mac.proofs.chain.Tie as tie
@@ -25,37 +25,16 @@ loop-holds : tie.Need-loop-holds Inv-loop μ-loop
 unfolding overBlocks
 loop-holds c = (refl, omega arith, omega arith)
 
-sub-loop : tie.Need-sub-loop Inv-loop μ-loop
-sub-loop c = omega arith
-
-block-at-requires : tie.Need-block-at-requires Inv-loop μ-loop
-block-at-requires c κs = omega arith
-
-next-requires : tie.Need-next-requires Inv-loop μ-loop
-next-requires c κs = search needs
-
-add-at : tie.Need-add-at Inv-loop μ-loop
-add-at c = omega arith
-
-loop-less : tie.Need-loop-less Inv-loop μ-loop
-loop-less c = omega arith
-
 loop-again : tie.Need-loop-again Inv-loop μ-loop
 loop-again c =
     let k = c .before .before .before in
     let a = k .before .before .args in (
-      over-turn (λ y x. blockCipher (now (a .keys)) (xor y x)) (a .y) (now (a .s)) (k .loop .at) 16 (k .loop .z) _
+      over-turn (λ y x. blockCipher (a .keys) (xor y x)) (a .y) (now (a .s)) (k .loop .at) 16 (k .loop .z) _
           (omega arith, omega arith) (omega arith) (omega arith) (k .loop .inv .0)
-          (c .next .ensures ∙ ap (λ (x : List ℕ). blockCipher (now (a .keys)) (xor (k .loop .z) x)) (c .before .block-at .ensures)),
+          (c .next .ensures ∙ ap (λ (x : List ℕ). blockCipher (a .keys) (xor (k .loop .z) x)) (c .before .block-at .ensures)),
       omega arith,
       omega arith,
     )
-
-block-at-requires-2 : tie.Need-block-at-requires-2 Inv-loop μ-loop
-block-at-requires-2 c κs = omega arith
-
-next-requires-2 : tie.Need-next-requires-2 Inv-loop μ-loop
-next-requires-2 c κs = search needs
 
 returns : tie.Need-returns Inv-loop μ-loop
 returns c =
@@ -63,17 +42,17 @@ returns c =
     let a = k .before .before .args in
     let m : ℕ = length (now (a .s)) - k .loop .at in
     let e : k .loop .at + m ≡ length (now (a .s)) = omega arith in
-    over-turn (λ y x. blockCipher (now (a .keys)) (xor y x)) (a .y) (now (a .s)) (k .loop .at) m (k .loop .z) _
+    over-turn (λ y x. blockCipher (a .keys) (xor y x)) (a .y) (now (a .s)) (k .loop .at) m (k .loop .z) _
     (omega arith, omega arith) (omega arith) (omega arith) (k .loop .inv .0)
-    (c .next2 .ensures ∙ ap (λ (x : List ℕ). blockCipher (now (a .keys)) (xor (k .loop .z) x)) (c .before .block-at2 .ensures))
-    ∙ ap (λ (n : ℕ). cbcMac (blockCipher (now (a .keys))) (a .y) (now (a .s)) (blockCount n)) e
+    (c .next2 .ensures ∙ ap (λ (x : List ℕ). blockCipher (a .keys) (xor (k .loop .z) x)) (c .before .block-at2 .ensures))
+    ∙ ap (λ (n : ℕ). cbcMac (blockCipher (a .keys)) (a .y) (now (a .s)) (blockCount n)) e
 
 returns-2 : tie.Need-returns-2 Inv-loop μ-loop
 returns-2 c =
     let k = c .before .before in
     let a = k .before .before .args in
     let e : k .loop .at ≡ length (now (a .s)) = omega arith in
-    k .loop .inv .0 ∙ ap (λ (n : ℕ). cbcMac (blockCipher (now (a .keys))) (a .y) (now (a .s)) (blockCount n)) e
+    k .loop .inv .0 ∙ ap (λ (n : ℕ). cbcMac (blockCipher (a .keys)) (a .y) (now (a .s)) (blockCount n)) e
 
 pub chain-spec : {M : Type 1} → statement M
 chain-spec =
@@ -82,13 +61,13 @@ chain-spec =
     Inv-loop
     μ-loop
     loop-holds
-    sub-loop
-    block-at-requires
-    next-requires
-    add-at
-    loop-less
+    (λ c. omega arith)
+    (λ c κs. omega arith)
+    (λ c κs. search needs)
+    (λ c. omega arith)
+    (λ c. omega arith)
     loop-again
-    block-at-requires-2
-    next-requires-2
+    (λ c κs. omega arith)
+    (λ c κs. search needs)
     returns
     returns-2)

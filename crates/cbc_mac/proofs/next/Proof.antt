@@ -2,19 +2,12 @@
 -- Assumes nothing.
 use mathlib.Core.Path.{ap, _∙_}
 use borrow.Author.Needs.{needs}
-use denote.Ref.{now}
-use Rattle.ctr.specs.BlockCipher.{blockCipher}
+use Rattle.aes.specs.BlockCipher.{blockCipher}
 use Rattle.cbc_mac.proofs.next.Statement.{statement}
 use Rattle.cbc_mac.proofs.next.Tie as tie
 
-xor-16-requires : tie.Need-xor-16-requires
-xor-16-requires c κs = search needs
-
-encrypt-with-requires : tie.Need-encrypt-with-requires
-encrypt-with-requires c κs = search needs
-
 returns : tie.Need-returns
-returns c = c .encrypt-with .ensures ∙ ap (blockCipher (now (c .before .before .args .keys))) (c .before .xor-16 .ensures)
+returns c = c .encrypt-block .ensures ∙ ap (blockCipher (c .before .before .args .keys)) (c .before .xor-16 .ensures)
 
 pub next-spec : {M : Type 1} → statement M
-next-spec = tie.close (tie.spec xor-16-requires encrypt-with-requires returns)
+next-spec = tie.close (tie.spec (λ c κs. search needs) (λ c κs. search needs) returns)

@@ -2,41 +2,19 @@
 -- Assumes nothing.
 use mathlib.Core.Path.{sym, _∙_}
 use denote.Ref.{now}
-use Rattle.ctr.specs.BlockCipher.{blockCipher}
+use Rattle.aes.specs.BlockCipher.{blockCipher}
 use Rattle.ccm.proofs.Opening.{opened-right, opened-wrong}
 use borrow.Author.Needs.{needs}
 use Rattle.ccm.proofs.open.Statement.{statement}
 use Rattle.ccm.proofs.open.Tie as tie
 
-table-requires : tie.Need-table-requires
-table-requires c κs = search needs
-
-xor-key-stream-requires : tie.Need-xor-key-stream-requires
-xor-key-stream-requires c κs = search needs
-
-tag-of-requires : tie.Need-tag-of-requires
-tag-of-requires c κs = search needs
-
-same-16-requires : tie.Need-same-16-requires
-same-16-requires c κs = search needs
-
-same-length : tie.Need-same-length
-same-length c = search needs
-
 returns : tie.Need-returns
 returns c =
-    let i = c in
-    let u = i .before .before .tag-of in
-    let m = i .before .before .before .before .before .before .before .xor-key-stream in
-    let a = i .before .before .before .before .before .before .before .before .before .before .before .before .args in
-    opened-right (blockCipher (now (a .keys))) (a .nonce) (a .aad) (a .tag) (now (a .text))
-    (m .last .1 .1 .1 .0) (u .result) (m .ensures) (u .ensures) (sym (i .before .same-16 .ensures) ∙ i .if1 .taken)
-
-xor-key-stream-requires-2 : tie.Need-xor-key-stream-requires-2
-xor-key-stream-requires-2 c κs = search needs
-
-same-length-2 : tie.Need-same-length-2
-same-length-2 c = search needs
+    let u = c .before .before .tag-of in
+    let m = c .before .before .before .before .before .before .before .xor-key-stream in
+    let a = c .before .before .before .before .before .before .before .before .before .before .before .before .args in
+    opened-right (blockCipher (a .keys)) (a .nonce) (a .aad) (a .tag) (now (a .text))
+    (m .last .1 .1 .1 .0) (u .result) (m .ensures) (u .ensures) (sym (c .before .same-16 .ensures) ∙ c .if1 .taken)
 
 returns-2 : tie.Need-returns-2
 returns-2 c =
@@ -44,19 +22,20 @@ returns-2 c =
     let u = i .before .before .tag-of in
     let m = i .before .before .before .before .before .before .before .xor-key-stream in
     let a = i .before .before .before .before .before .before .before .before .before .before .before .before .args in
-    opened-wrong (blockCipher (now (a .keys))) (a .nonce) (a .aad) (a .tag) (now (a .text))
-    (m .last .1 .1 .1 .0) (u .result) (m .ensures) (u .ensures) _ (sym (i .before .same-16 .ensures) ∙ i .if1 .left) (c .before .before .xor-key-stream2 .ensures)
+    opened-wrong (blockCipher (a .keys)) (a .nonce) (a .aad) (a .tag) (now (a .text))
+    (m .last .1 .1 .1 .0) (u .result) (m .ensures) (u .ensures) _ (sym (i .before .same-16 .ensures) ∙ i .if1 .left)
+    (c .before .before .xor-key-stream2 .ensures)
 
 pub open-spec : {M : Type 1} → statement M
 open-spec =
     tie.close
     (tie.spec
-    table-requires
-    xor-key-stream-requires
-    tag-of-requires
-    same-16-requires
-    same-length
+    (λ c κs. search needs)
+    (λ c κs. search needs)
+    (λ c κs. search needs)
+    (λ c κs. search needs)
+    (λ c κs. search needs)
+    (λ c. search needs)
     returns
-    xor-key-stream-requires-2
-    same-length-2
+    (λ c. search needs)
     returns-2)

@@ -7,87 +7,47 @@ use denote.Ref.{now}
 use lib.ListN.{length}
 use Rattle.octets.specs.Numbers.{toBigEndian}
 use Rattle.aes.proofs.Lengths.{length-cipher}
-use Rattle.ctr.specs.BlockCipher.{blockCipher}
+use Rattle.aes.specs.BlockCipher.{blockCipher}
 use Rattle.ccm.proofs.Tag.{tag-right}
 use borrow.Author.Needs.{needs}
 use Rattle.ccm.proofs.tag_of.Statement.{statement}
 use Rattle.ccm.proofs.tag_of.Tie as tie
 
-flags-and-nonce-requires : tie.Need-flags-and-nonce-requires
-flags-and-nonce-requires c κs = search needs
-
-cast-counter-block : tie.Need-cast-counter-block
-cast-counter-block c = search needs
-
-counter-block-requires : tie.Need-counter-block-requires
-counter-block-requires c κs = search needs
-
-with-length-requires : tie.Need-with-length-requires
-with-length-requires c κs = search needs
-
-slice-aggregate-chain : tie.Need-slice-aggregate-chain
-slice-aggregate-chain c = search needs
-
-chain-requires : tie.Need-chain-requires
-chain-requires c κs = search needs
-
-slice-aggregate-chain-2 : tie.Need-slice-aggregate-chain-2
-slice-aggregate-chain-2 c = search needs
-
-chain-requires-2 : tie.Need-chain-requires-2
-chain-requires-2 c κs = search needs
-
-chain-requires-3 : tie.Need-chain-requires-3
-chain-requires-3 c κs = search needs
-
-flags-and-nonce-requires-2 : tie.Need-flags-and-nonce-requires-2
-flags-and-nonce-requires-2 c κs = search needs
-
-counter-block-requires-2 : tie.Need-counter-block-requires-2
-counter-block-requires-2 c κs = search needs
-
-encrypt-with-requires : tie.Need-encrypt-with-requires
-encrypt-with-requires c κs = search needs
-
-xor-16-requires : tie.Need-xor-16-requires
-xor-16-requires c κs = search needs
-
 returns : tie.Need-returns
 returns c =
-    let s = c .before .encrypt-with in
-    let z = c .before .before .counter-block2 in
-    let zf = c .before .before .before .flags-and-nonce2 in
-    let y = c .before .before .before .before .chain3 in
-    let y1 = c .before .before .before .before .before .chain2 in
-    let y0 = c .before .before .before .before .before .before .before .chain in
-    let w = c .before .before .before .before .before .before .before .before .before .with-length in
-    let b = c .before .before .before .before .before .before .before .before .before .before .counter-block in
-    let bf = c .before .before .before .before .before .before .before .before .before .before .before .flags-and-nonce in
-    let st = c .before .before .before .before .before .before .before .before .before .before .before .before .before in
+    let s = c .before .encrypt-counter in
+    let zf = c .before .before .flags-and-nonce2 in
+    let y = c .before .before .before .chain3 in
+    let y1 = c .before .before .before .before .chain2 in
+    let y0 = c .before .before .before .before .before .before .chain in
+    let w = c .before .before .before .before .before .before .before .before .with-length in
+    let b = c .before .before .before .before .before .before .before .before .before .counter-block in
+    let bf = c .before .before .before .before .before .before .before .before .before .before .flags-and-nonce in
+    let st = c .before .before .before .before .before .before .before .before .before .before .before .before in
     let a = st .args in
-    let keys = now (a .keys) in
-    tag-right (blockCipher keys) (a .nonce) (a .aad) (now (a .text)) (st .good .1 .1 .0 .1 .0 .1) (st .good .1 .1 .1 .0 .1 .0 .1) (length-cipher (length keys - 1) keys)
+    let keys = a .keys in
+    tag-right (blockCipher keys) (a .nonce) (a .aad) (now (a .text)) (st .good .1 .1 .0 .1 .0 .1) (st .good .1 .1 .1 .0 .1 .0 .1)
+    (length-cipher (length keys - 1) keys)
     (b .result) (w .result) (y0 .result) (y1 .result) (y .result) (s .result) _
     (b .ensures ∙ ap (λ (p : List ℕ). p ++ toBigEndian 4 (length (now (a .text)))) (bf .ensures))
     (w .ensures) (y0 .ensures) (y1 .ensures) (y .ensures)
-    (s .ensures ∙ ap (blockCipher keys) (z .ensures ∙ ap (λ (p : List ℕ). p ++ toBigEndian 4 0) (zf .ensures)))
+    (s .ensures ∙ ap (λ (p : List ℕ). blockCipher keys (p ++ toBigEndian 4 0)) (zf .ensures))
     (c .xor-16 .ensures)
 
 pub tag-of-spec : {M : Type 1} → statement M
 tag-of-spec =
     tie.close
     (tie.spec
-    flags-and-nonce-requires
-    cast-counter-block
-    counter-block-requires
-    with-length-requires
-    slice-aggregate-chain
-    chain-requires
-    slice-aggregate-chain-2
-    chain-requires-2
-    chain-requires-3
-    flags-and-nonce-requires-2
-    counter-block-requires-2
-    encrypt-with-requires
-    xor-16-requires
+    (λ c κs. search needs)
+    (λ c. search needs)
+    (λ c κs. search needs)
+    (λ c κs. search needs)
+    (λ c. search needs)
+    (λ c κs. search needs)
+    (λ c. search needs)
+    (λ c κs. search needs)
+    (λ c κs. search needs)
+    (λ c κs. search needs)
+    (λ c κs. search needs)
+    (λ c κs. search needs)
     returns)

@@ -2,6 +2,7 @@
 -- Assumes nothing.
 use Rattle.compound.proofs.WalkLaws.{Walking, refused-at-once, begins, ends, stops, goes-on}
 use borrow.Author.Needs.{needs}
+use Rattle.compound.specs.Reading.{envelopeOf}
 use lib.ListN.{length}
 use native.Mathlib.Omega.{arith}
 use Prim.Native.Nat.{_-_}
@@ -10,60 +11,48 @@ use Rattle.compound.proofs.walk_headers.Statement.{statement}
 use Rattle.compound.proofs.walk_headers.Tie as tie
 
 abbrev Inv-loop : tie.InvT-loop
-Inv-loop message id first p₀ n₀ p n = Walking message id p n
+Inv-loop message e first p₀ n₀ p n = Walking message (envelopeOf e) p n
 
 abbrev μ-loop : tie.MeasureT-loop
-μ-loop message id first p₀ n₀ p n = length message - p
-
-first-number-requires : tie.Need-first-number-requires Inv-loop μ-loop
-first-number-requires c κs = search needs
+μ-loop message e first p₀ n₀ p n = length message - p
 
 returns : tie.Need-returns Inv-loop μ-loop
 returns c =
     let a = c .before .before .before .args in
-    sym (refused-at-once (a .message .now) (a .id) _ (c .before .first-number .ensures) (c .if1 .taken))
+    sym (refused-at-once (a .message .now) (envelopeOf (a .e)) _ (c .before .first-number .ensures) (c .if1 .taken))
 
 loop-holds : tie.Need-loop-holds Inv-loop μ-loop
 loop-holds c =
     let a = c .before .before .before .args in
-    begins (a .message .now) (a .id) _ (c .before .first-number .ensures) (c .if1 .left)
-
-next-command-requires : tie.Need-next-command-requires Inv-loop μ-loop
-next-command-requires c κs = omega arith
-
-next-number-requires : tie.Need-next-number-requires Inv-loop μ-loop
-next-number-requires c κs = omega arith
+    begins (a .message .now) (envelopeOf (a .e)) _ (c .before .first-number .ensures) (c .if1 .left)
 
 add-p : tie.Need-add-p Inv-loop μ-loop
 add-p c =
     let a = c .before .before .before .before .before .before .before .before .args in
     let l = c .before .before .before .before .loop in
-    let next = goes-on (a .message .now) (a .id) (l .p) (l .n) (l .inv) _ (c .before .before .before .next-command .ensures) (c .before .before .if2 .left) _ (c .before .next-number .ensures) (c .if3 .left) in
+    let next = goes-on (a .message .now) (envelopeOf (a .e)) (l .p) (l .n) (l .inv) _ (c .before .before .before .next-command .ensures)
+    (c .before .before .if2 .left) _ (c .before .next-number .ensures) (c .if3 .left) in
     omega arith
-
-add-n : tie.Need-add-n Inv-loop μ-loop
-add-n c = omega arith
-
-loop-less : tie.Need-loop-less Inv-loop μ-loop
-loop-less c = omega arith
 
 loop-again : tie.Need-loop-again Inv-loop μ-loop
 loop-again c =
     let a = c .before .before .before .before .before .before .before .before .args in
     let l = c .before .before .before .before .loop in
-    goes-on (a .message .now) (a .id) (l .p) (l .n) (l .inv) _ (c .before .before .before .next-command .ensures) (c .before .before .if2 .left) _ (c .before .next-number .ensures) (c .if3 .left)
+    goes-on (a .message .now) (envelopeOf (a .e)) (l .p) (l .n) (l .inv) _ (c .before .before .before .next-command .ensures) (c .before .before .if2 .left)
+    _ (c .before .next-number .ensures) (c .if3 .left)
 
 returns-2 : tie.Need-returns-2 Inv-loop μ-loop
 returns-2 c =
     let a = c .before .before .before .before .before .before .args in
     let l = c .before .before .loop in
-    sym (ends (a .message .now) (a .id) (l .p) (l .n) (l .inv) _ (c .before .next-command .ensures) (c .if2 .taken))
+    sym (ends (a .message .now) (envelopeOf (a .e)) (l .p) (l .n) (l .inv) _ (c .before .next-command .ensures) (c .if2 .taken))
 
 returns-3 : tie.Need-returns-3 Inv-loop μ-loop
 returns-3 c =
     let a = c .before .before .before .before .before .before .before .before .args in
     let l = c .before .before .before .before .loop in
-    sym (stops (a .message .now) (a .id) (l .p) (l .n) (l .inv) _ (c .before .before .before .next-command .ensures) (c .before .before .if2 .left) _ (c .before .next-number .ensures) (c .if3 .taken))
+    sym (stops (a .message .now) (envelopeOf (a .e)) (l .p) (l .n) (l .inv) _ (c .before .before .before .next-command .ensures)
+    (c .before .before .if2 .left) _ (c .before .next-number .ensures) (c .if3 .taken))
 
 pub walk-headers-spec : {M : Type 1} → statement M
 walk-headers-spec =
@@ -71,14 +60,14 @@ walk-headers-spec =
     (tie.spec
     Inv-loop
     μ-loop
-    first-number-requires
+    (λ c κs. search needs)
     returns
     loop-holds
-    next-command-requires
-    next-number-requires
+    (λ c κs. omega arith)
+    (λ c κs. omega arith)
     add-p
-    add-n
-    loop-less
+    (λ c. omega arith)
+    (λ c. omega arith)
     loop-again
     returns-2
     returns-3)

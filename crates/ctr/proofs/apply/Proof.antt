@@ -7,7 +7,7 @@ use lib.ListN.{length}
 use lib.Seq.{paste, paste-zero}
 use denote.Ref.{now}
 use borrow.Author.Needs.{needs}
-use Rattle.ctr.specs.BlockCipher.{blockCipher}
+use Rattle.aes.specs.BlockCipher.{blockCipher}
 use Rattle.ctr.specs.Ctr.{ctr, counterBlocks}
 use Rattle.ctr.proofs.CtrLaws.{counter-turn, ctr-end}
 use Rattle.ctr.proofs.apply.Statement.{statement}
@@ -24,25 +24,9 @@ abbrev μ-loop : tie.MeasureT-loop
 loop-holds : tie.Need-loop-holds Inv-loop μ-loop
 loop-holds c =
     let a = c .before .args in
-    (paste-zero (now (a .text)) 0 (ctr (blockCipher (now (a .keys))) (counterBlocks (a .prefix) (a .first)) (now (a .text))), omega arith, omega arith, omega arith, refl)
-
-sub-loop : tie.Need-sub-loop Inv-loop μ-loop
-sub-loop c = omega arith
-
-encrypt-counter-requires : tie.Need-encrypt-counter-requires Inv-loop μ-loop
-encrypt-counter-requires c κs = search needs
-
-xor-at-requires : tie.Need-xor-at-requires Inv-loop μ-loop
-xor-at-requires c κs = omega arith
-
-add-i : tie.Need-add-i Inv-loop μ-loop
-add-i c = omega arith
-
-add-n : tie.Need-add-n Inv-loop μ-loop
-add-n c = omega arith
-
-loop-less : tie.Need-loop-less Inv-loop μ-loop
-loop-less c = omega arith
+    let text = now (a .text) in
+    let E = blockCipher (a .keys) in
+    (paste-zero text 0 (ctr E (counterBlocks (a .prefix) (a .first)) text), omega arith, omega arith, omega arith, refl)
 
 loop-again : tie.Need-loop-again Inv-loop μ-loop
 loop-again c =
@@ -50,25 +34,13 @@ loop-again c =
     let g = c .before .before .before .encrypt-counter in
     let k = c .before .before .before .before .before .before in
     let a = k .before .before .args in (
-      counter-turn (blockCipher (now (a .keys))) (a .prefix) (a .first) (k .loop .n) (now (a .text)) (k .loop .i) 16 (g .result) (k .loop .text) _
+      counter-turn (blockCipher (a .keys)) (a .prefix) (a .first) (k .loop .n) (now (a .text)) (k .loop .i) 16 (g .result) (k .loop .text) _
           (omega arith) (omega arith) (omega arith) (omega arith) (g .ensures) (k .loop .inv .0) (x .ensures),
       omega arith,
       omega arith,
       omega arith,
       x .kept .0 ∙ k .loop .inv .4,
     )
-
-sub-xor-at : tie.Need-sub-xor-at Inv-loop μ-loop
-sub-xor-at c = omega arith
-
-encrypt-counter-requires-2 : tie.Need-encrypt-counter-requires-2 Inv-loop μ-loop
-encrypt-counter-requires-2 c κs = search needs
-
-xor-at-requires-2 : tie.Need-xor-at-requires-2 Inv-loop μ-loop
-xor-at-requires-2 c κs = omega arith
-
-same-length : tie.Need-same-length Inv-loop μ-loop
-same-length c = omega arith
 
 returns : tie.Need-returns Inv-loop μ-loop
 returns c =
@@ -77,18 +49,15 @@ returns c =
     let k = c .before .before .before .before .before .before .before in
     let a = k .before .before .args in
     let m : ℕ = length (k .loop .text) - k .loop .i in
-    ctr-end (blockCipher (now (a .keys))) (counterBlocks (a .prefix) (a .first)) (now (a .text)) (k .loop .i + m) _ (omega arith)
-    (counter-turn (blockCipher (now (a .keys))) (a .prefix) (a .first) (k .loop .n) (now (a .text)) (k .loop .i) m (g .result) (k .loop .text) _
+    ctr-end (blockCipher (a .keys)) (counterBlocks (a .prefix) (a .first)) (now (a .text)) (k .loop .i + m) _ (omega arith)
+    (counter-turn (blockCipher (a .keys)) (a .prefix) (a .first) (k .loop .n) (now (a .text)) (k .loop .i) m (g .result) (k .loop .text) _
     (omega arith) (omega arith) (omega arith) (omega arith) (g .ensures) (k .loop .inv .0) (x .ensures))
-
-same-length-2 : tie.Need-same-length-2 Inv-loop μ-loop
-same-length-2 c = omega arith
 
 returns-2 : tie.Need-returns-2 Inv-loop μ-loop
 returns-2 c =
     let k = c .before .before in
     let a = k .before .before .args in
-    ctr-end (blockCipher (now (a .keys))) (counterBlocks (a .prefix) (a .first)) (now (a .text)) (k .loop .i) (k .loop .text) (omega arith) (k .loop .inv .0)
+    ctr-end (blockCipher (a .keys)) (counterBlocks (a .prefix) (a .first)) (now (a .text)) (k .loop .i) (k .loop .text) (omega arith) (k .loop .inv .0)
 
 pub apply-spec : {M : Type 1} → statement M
 apply-spec =
@@ -97,17 +66,17 @@ apply-spec =
     Inv-loop
     μ-loop
     loop-holds
-    sub-loop
-    encrypt-counter-requires
-    xor-at-requires
-    add-i
-    add-n
-    loop-less
+    (λ c. omega arith)
+    (λ c κs. search needs)
+    (λ c κs. omega arith)
+    (λ c. omega arith)
+    (λ c. omega arith)
+    (λ c. omega arith)
     loop-again
-    sub-xor-at
-    encrypt-counter-requires-2
-    xor-at-requires-2
-    same-length
+    (λ c. omega arith)
+    (λ c κs. search needs)
+    (λ c κs. omega arith)
+    (λ c. omega arith)
     returns
-    same-length-2
+    (λ c. omega arith)
     returns-2)

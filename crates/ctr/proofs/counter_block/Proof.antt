@@ -1,56 +1,33 @@
 -- Right because the twelve bytes and the four of the number fill the block.
 -- Assumes nothing.
 use mathlib.Core.List.{List, _++_}
-use mathlib.Core.Path.{_≡_, ap, ap₂, sym, _∙_}
+use mathlib.Core.Path.{_≡_, ap, sym, _∙_}
 use Prim.Native.Nat.{ℕ, _+_}
 use lib.ListN.{length, replicate}
-use lib.Seq.{paste}
-use Rattle.ctr.proofs.TwoRuns.{two-runs}
+use Rattle.octets.proofs.Paste.{two-runs}
 use borrow.Author.Needs.{needs}
 use Rattle.ctr.proofs.counter_block.Statement.{statement}
 use Rattle.ctr.proofs.counter_block.Tie as tie
 
-u32-bytes-requires : tie.Need-u32-bytes-requires
-u32-bytes-requires c κs = search needs
-
-slice-aggregate-copy : tie.Need-slice-aggregate-copy
-slice-aggregate-copy c = search needs
-
-slice-aggregate-copy-2 : tie.Need-slice-aggregate-copy-2
-slice-aggregate-copy-2 c = search needs
-
-copy-requires : tie.Need-copy-requires
-copy-requires c κs = search needs
-
-slice-aggregate-copy-3 : tie.Need-slice-aggregate-copy-3
-slice-aggregate-copy-3 c = search needs
-
-slice-aggregate-copy-4 : tie.Need-slice-aggregate-copy-4
-slice-aggregate-copy-4 c = search needs
-
-copy-requires-2 : tie.Need-copy-requires-2
-copy-requires-2 c κs = search needs
-
 returns : tie.Need-returns
 returns c =
-    let p = c .before .before .before .before .before .before .before .before .before .args .t1 in
-    let u = c .before .before .before .before .before .before .before .before .u32-bytes in
     let f = c .before .before .before .before .before .copy in
+    let u = c .before .before .before .before .before .before .before .before .u32-bytes in
+    let p = c .before .before .before .before .before .before .before .before .before .args .t1 in
     let lp : length p ≡ 12 = search needs in
     let lu : length (u .result) ≡ 4 = search needs in
-    two-runs (replicate 16 0) p (u .result) (f .last .0) _ (sym (ap₂ _+_ lp lu)) (f .ensures)
-    (c .before .copy2 .ensures ∙ ap (λ (k : ℕ). paste (f .last .0) k (u .result) (length (u .result))) (sym lp))
+    two-runs (replicate 16 0) p (u .result) (f .last .0) _ 12 lp (ap (λ (n : ℕ). 12 + n) (sym lu)) (f .ensures) (c .before .copy2 .ensures)
     ∙ ap (λ (x : List ℕ). p ++ x) (u .ensures)
 
 pub counter-block-spec : {M : Type 1} → statement M
 counter-block-spec =
     tie.close
     (tie.spec
-    u32-bytes-requires
-    slice-aggregate-copy
-    slice-aggregate-copy-2
-    copy-requires
-    slice-aggregate-copy-3
-    slice-aggregate-copy-4
-    copy-requires-2
+    (λ c κs. search needs)
+    (λ c. search needs)
+    (λ c. search needs)
+    (λ c κs. search needs)
+    (λ c. search needs)
+    (λ c. search needs)
+    (λ c κs. search needs)
     returns)

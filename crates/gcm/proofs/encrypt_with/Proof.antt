@@ -4,12 +4,6 @@ use Rattle.gcm.specs.Gcm.{encrypt}
 use Rattle.gcm.proofs.encrypt_with.Statement.{statement}
 use Rattle.gcm.proofs.encrypt_with.Tie as tie
 
-apply-requires : tie.Need-apply-requires
-apply-requires c κs = search needs
-
-same-length : tie.Need-same-length
-same-length c = search needs
-
 returns : tie.Need-returns
 unfolding encrypt
 returns c = c .before .before .apply .ensures
@@ -18,6 +12,6 @@ pub encrypt-with-spec : {M : Type 1} → statement M
 encrypt-with-spec =
     tie.close
     (tie.spec
-    apply-requires
-    same-length
+    (λ c κs. search needs)
+    (λ c. search needs)
     returns)

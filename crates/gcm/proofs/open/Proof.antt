@@ -2,25 +2,10 @@
 use mathlib.Core.Path.{sym, _∙_}
 use borrow.Author.Needs.{needs}
 use denote.Ref.{now}
-use Rattle.ctr.specs.BlockCipher.{blockCipher}
+use Rattle.aes.specs.BlockCipher.{blockCipher}
 use Rattle.gcm.proofs.InPlace.{opened-right, opened-wrong}
 use Rattle.gcm.proofs.open.Statement.{statement}
 use Rattle.gcm.proofs.open.Tie as tie
-
-table-requires : tie.Need-table-requires
-table-requires c κs = search needs
-
-tag-with-requires : tie.Need-tag-with-requires
-tag-with-requires c κs = search needs
-
-same-16-requires : tie.Need-same-16-requires
-same-16-requires c κs = search needs
-
-encrypt-with-requires : tie.Need-encrypt-with-requires
-encrypt-with-requires c κs = search needs
-
-same-length : tie.Need-same-length
-same-length c = search needs
 
 returns : tie.Need-returns
 returns c =
@@ -28,28 +13,25 @@ returns c =
     let i = e .before .before .before in
     let t = i .before .before in
     let args = t .before .before .before .before .before .before .args in
-    opened-right (blockCipher (now (args .keys))) (args .nonce) (now (args .aad)) (args .tag) (now (args .text)) (t .tag-with .result)
+    opened-right (blockCipher (args .keys)) (args .nonce) (now (args .aad)) (args .tag) (now (args .text)) (t .tag-with .result)
     (t .tag-with .ensures) _ (sym (i .before .same-16 .ensures) ∙ i .if1 .taken) (e .encrypt-with .ensures)
-
-same-length-2 : tie.Need-same-length-2
-same-length-2 c = search needs
 
 returns-2 : tie.Need-returns-2
 returns-2 c =
     let t = c .before .before in
     let args = t .before .before .before .before .before .before .args in
-    opened-wrong (blockCipher (now (args .keys))) (args .nonce) (now (args .aad)) (args .tag) (now (args .text)) (t .tag-with .result)
+    opened-wrong (blockCipher (args .keys)) (args .nonce) (now (args .aad)) (args .tag) (now (args .text)) (t .tag-with .result)
     (t .tag-with .ensures) (sym (c .before .same-16 .ensures) ∙ c .if1 .left)
 
 pub open-spec : {M : Type 1} → statement M
 open-spec =
     tie.close
     (tie.spec
-    table-requires
-    tag-with-requires
-    same-16-requires
-    encrypt-with-requires
-    same-length
+    (λ c κs. search needs)
+    (λ c κs. search needs)
+    (λ c κs. search needs)
+    (λ c κs. search needs)
+    (λ c. search needs)
     returns
-    same-length-2
+    (λ c. search needs)
     returns-2)

@@ -1,36 +1,13 @@
 -- Right because the high word is the first eight bytes.
-use mathlib.Core.Path.{_≡_, ap₂, _∙_}
+use mathlib.Core.Path.{_≡_, ap, ap₂, sym, _∙_}
 use mathlib.Core.List.{List, _++_}
-use lib.ListN.{length}
-use Prim.Native.Nat.{ℕ}
+use lib.ListN.{length, replicate}
+use Prim.Native.Nat.{ℕ, _+_}
 use borrow.Author.Needs.{needs}
-use Rattle.ghash.proofs.ByteLaws.{block-is, halves}
+use Rattle.octets.proofs.Pairs.{block-is}
+use Rattle.octets.proofs.Paste.{two-runs}
 use Rattle.ghash.proofs.block_of.Statement.{statement}
 use Rattle.ghash.proofs.block_of.Tie as tie
-
-u64-bytes-requires : tie.Need-u64-bytes-requires
-u64-bytes-requires c κs = search needs
-
-u64-bytes-requires-2 : tie.Need-u64-bytes-requires-2
-u64-bytes-requires-2 c κs = search needs
-
-slice-aggregate-copy : tie.Need-slice-aggregate-copy
-slice-aggregate-copy c = search needs
-
-slice-aggregate-copy-2 : tie.Need-slice-aggregate-copy-2
-slice-aggregate-copy-2 c = search needs
-
-copy-requires : tie.Need-copy-requires
-copy-requires c κs = search needs
-
-slice-aggregate-copy-3 : tie.Need-slice-aggregate-copy-3
-slice-aggregate-copy-3 c = search needs
-
-slice-aggregate-copy-4 : tie.Need-slice-aggregate-copy-4
-slice-aggregate-copy-4 c = search needs
-
-copy-requires-2 : tie.Need-copy-requires-2
-copy-requires-2 c κs = search needs
 
 returns : tie.Need-returns
 returns c =
@@ -40,7 +17,8 @@ returns c =
     let e = high .before .args .e in
     let la : length (high .u64-bytes .result) ≡ 8 = search needs in
     let lb : length (low .u64-bytes2 .result) ≡ 8 = search needs in
-    halves (high .u64-bytes .result) (low .u64-bytes2 .result) (first .copy .last .0) _ la lb (first .copy .ensures) (c .before .copy2 .ensures)
+    two-runs (replicate 16 0) (high .u64-bytes .result) (low .u64-bytes2 .result) (first .copy .last .0) _ 8 la (ap (λ (n : ℕ). 8 + n) (sym lb))
+    (first .copy .ensures) (c .before .copy2 .ensures)
     ∙ ap₂ (λ (x y : List ℕ). x ++ y) (high .u64-bytes .ensures) (low .u64-bytes2 .ensures)
     ∙ block-is (e .hi) (e .lo) (search needs)
 
@@ -48,12 +26,12 @@ pub block-of-spec : {M : Type 1} → statement M
 block-of-spec =
     tie.close
     (tie.spec
-    u64-bytes-requires
-    u64-bytes-requires-2
-    slice-aggregate-copy
-    slice-aggregate-copy-2
-    copy-requires
-    slice-aggregate-copy-3
-    slice-aggregate-copy-4
-    copy-requires-2
+    (λ c κs. search needs)
+    (λ c κs. search needs)
+    (λ c. search needs)
+    (λ c. search needs)
+    (λ c κs. search needs)
+    (λ c. search needs)
+    (λ c. search needs)
+    (λ c κs. search needs)
     returns)

@@ -3,15 +3,9 @@ use mathlib.Core.Path.{_≡_, ap, _∙_}
 use lib.ListN.{length}
 use borrow.Author.Needs.{needs}
 use Rattle.octets.specs.Numbers.{bigEndian}
-use Rattle.ghash.proofs.ByteLaws.{zeroPadded-exact}
+use Rattle.octets.proofs.BlockLaws.{zeroPadded-exact}
 use Rattle.ghash.proofs.prepare.Statement.{statement}
 use Rattle.ghash.proofs.prepare.Tie as tie
-
-slice-aggregate-element : tie.Need-slice-aggregate-element
-slice-aggregate-element c = search needs
-
-element-requires : tie.Need-element-requires
-element-requires c κs = search needs
 
 returns : tie.Need-returns
 returns c =
@@ -20,4 +14,4 @@ returns c =
     record { element = c .element .ensures ∙ ap bigEndian (zeroPadded-exact 16 h l) }
 
 pub prepare-spec : {M : Type 1} → statement M
-prepare-spec = tie.close (tie.spec slice-aggregate-element element-requires returns)
+prepare-spec = tie.close (tie.spec (λ c. search needs) (λ c κs. search needs) returns)

@@ -5,14 +5,8 @@ use Rattle.ghash.specs.Field.{mul}
 use Rattle.ghash.proofs.step.Statement.{statement}
 use Rattle.ghash.proofs.step.Tie as tie
 
-add-requires : tie.Need-add-requires
-add-requires c κs = search needs
-
-multiply-requires : tie.Need-multiply-requires
-multiply-requires c κs = search needs
-
 returns : tie.Need-returns
 returns c = λ h p. c .multiply .ensures ∙ ap₂ mul (c .before .add .ensures) (p .element)
 
 pub step-spec : {M : Type 1} → statement M
-step-spec = tie.close (tie.spec add-requires multiply-requires returns)
+step-spec = tie.close (tie.spec (λ c κs. search needs) (λ c κs. search needs) returns)

@@ -25,24 +25,6 @@ loop-holds : tie.Need-loop-holds Inv-loop μ-loop
 unfolding overBlocks
 loop-holds c = ((λ h p. refl), omega arith)
 
-block-requires : tie.Need-block-requires Inv-loop μ-loop
-block-requires c κs = omega arith
-
-step-requires : tie.Need-step-requires Inv-loop μ-loop
-step-requires c κs = search needs
-
-sub-at-most-16 : tie.Need-sub-at-most-16 Inv-loop μ-loop
-sub-at-most-16 c = omega arith
-
-at-most-16-requires : tie.Need-at-most-16-requires Inv-loop μ-loop
-at-most-16-requires c κs = search needs
-
-add-at : tie.Need-add-at Inv-loop μ-loop
-add-at c = omega arith
-
-loop-less : tie.Need-loop-less Inv-loop μ-loop
-loop-less c = omega arith
-
 loop-again : tie.Need-loop-again Inv-loop μ-loop
 loop-again c =
     let t = c .before .before .before in
@@ -51,7 +33,8 @@ loop-again c =
     let s = now (a .s) in
     let m = c .at-most-16 in (
       (λ h p.
-          over-turn (step h) (elementOf (a .y)) s (k .loop .at) (m .result) (elementOf (k .loop .z)) _ (k .loop .inv .1) (t .loop-test .taken) (m .ensures) (k .loop .inv .0 h p)
+          over-turn (step h) (elementOf (a .y)) s (k .loop .at) (m .result) (elementOf (k .loop .z)) _ (k .loop .inv .1) (t .loop-test .taken) (m .ensures)
+          (k .loop .inv .0 h p)
           (c .before .step .ensures h p ∙ ap (λ (x : ℕ). mul (bitXor (elementOf (k .loop .z)) x) h) (c .before .before .block .ensures))),
       block-turn (k .loop .at) (length s) (m .result) (k .loop .inv .1) (t .loop-test .taken) (m .ensures),
     )
@@ -71,11 +54,11 @@ update-spec =
     Inv-loop
     μ-loop
     loop-holds
-    block-requires
-    step-requires
-    sub-at-most-16
-    at-most-16-requires
-    add-at
-    loop-less
+    (λ c κs. omega arith)
+    (λ c κs. search needs)
+    (λ c. omega arith)
+    (λ c κs. search needs)
+    (λ c. omega arith)
+    (λ c. omega arith)
     loop-again
     returns)

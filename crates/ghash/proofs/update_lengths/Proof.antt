@@ -5,13 +5,10 @@ use Rattle.ghash.proofs.GhashLaws.{ghash-pair}
 use Rattle.ghash.proofs.update_lengths.Statement.{statement}
 use Rattle.ghash.proofs.update_lengths.Tie as tie
 
-step-requires : tie.Need-step-requires
-step-requires c κs = search needs
-
 returns : tie.Need-returns
 returns c =
     let args = c .before .args in
     λ h p. ghash-pair h (elementOf (args .y)) (args .a) (args .b) _ (search needs) (search needs) (c .step .ensures h p)
 
 pub update-lengths-spec : {M : Type 1} → statement M
-update-lengths-spec = tie.close (tie.spec step-requires returns)
+update-lengths-spec = tie.close (tie.spec (λ c κs. search needs) returns)

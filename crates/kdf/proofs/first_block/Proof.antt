@@ -1,81 +1,43 @@
 -- Right because the pieces, joined, are the counter and the fixed input.
 -- Assumes nothing.
-use Prim.Native.Nat.{ℕ}
-use mathlib.Core.Path.{_≡_, sym, ap, ap₂, _∙_}
-use mathlib.Core.List.{List, [], _∷_, _++_, append-assoc}
+use mathlib.Core.Path.{sym}
+use mathlib.Core.List.{[]}
 use denote.Ref.{now}
-use Rattle.sha2.specs.Sha256.{sha256}
-use Rattle.hmac.specs.Hmac.{hmac}
-use Rattle.kdf.specs.CounterMode.{fixedInput, block}
+use Rattle.kdf.proofs.CounterModeLaws.{of-pieces}
 use borrow.Author.Needs.{needs}
 use Rattle.kdf.proofs.first_block.Statement.{statement}
 use Rattle.kdf.proofs.first_block.Tie as tie
 
-joined : (counter label context length : List ℕ) → (((counter ++ label) ++ (0 ∷ [])) ++ context) ++ length ≡ counter ++ (label ++ ((0 ∷ context) ++ length))
-joined counter label context length = simp append-assoc
-
-u32-bytes-requires : tie.Need-u32-bytes-requires
-u32-bytes-requires c κs = search needs
-
-u32-bytes-requires-2 : tie.Need-u32-bytes-requires-2
-u32-bytes-requires-2 c κs = search needs
-
-new-requires : tie.Need-new-requires
-new-requires c κs = search needs
-
-slice-aggregate-update : tie.Need-slice-aggregate-update
-slice-aggregate-update c = search needs
-
-update-requires : tie.Need-update-requires
-update-requires c κs = search needs
-
-update-requires-2 : tie.Need-update-requires-2
-update-requires-2 c κs = search needs
-
-slice-aggregate-update-2 : tie.Need-slice-aggregate-update-2
-slice-aggregate-update-2 c = search needs
-
-update-requires-3 : tie.Need-update-requires-3
-update-requires-3 c κs = search needs
-
-update-requires-4 : tie.Need-update-requires-4
-update-requires-4 c κs = search needs
-
 slice-aggregate-update-3 : tie.Need-slice-aggregate-update-3
 slice-aggregate-update-3 c = sym (c .before .before .before .before .before .before .before .before .u32-bytes2 .ok .1 .0 .1)
 
-update-requires-5 : tie.Need-update-requires-5
-update-requires-5 c κs = search needs
-
-finish-requires : tie.Need-finish-requires
-finish-requires c κs = search needs
-
 returns : tie.Need-returns
-unfolding fixedInput block
 returns c =
-    let a = c .before .before .before .before .before .before .before .before .before .before .before .before .before .before .before .args in
+    let k₃ = c .before .before .before .before in
+    let k₁ = k₃ .before .before .before in
+    let start = k₁ .before .before in
+    let a = start .before .before .before .before .before .before .args in
     let key = now (a .key) in
-    let label = now (a .label) in
-    let context = now (a .context) in
-    let i = c .before .before .before .before .before .before .before .before .before .before .before .u32-bytes in
-    let n = c .before .before .before .before .before .before .before .before .before .before .u32-bytes2 in
-    c .finish .ensures key _ (c .before .update5 .ensures key _ (c .before .before .before .update4 .ensures key _ (c .before .before .before .before .update3 .ensures key _ (c .before .before .before .before .before .before .update2 .ensures key _ (c .before .before .before .before .before .before .before .update .ensures key [] (c .before .before .before .before .before .before .before .before .before .new .ensures))))))
-    ∙ ap (hmac sha256 key) (joined (i .result) label context (n .result) ∙ ap₂ (λ (x y : List ℕ). x ++ (label ++ ((0 ∷ context) ++ y))) (i .ensures) (n .ensures))
+    let h₁ = k₁ .update .ensures key [] (start .new .ensures) in
+    let h₃ = k₃ .update3 .ensures key _ (k₃ .before .before .update2 .ensures key _ h₁) in
+    let h₅ = c .before .update5 .ensures key _ (c .before .before .before .update4 .ensures key _ h₃) in
+    of-pieces key (now (a .label)) (now (a .context)) (a .bits) (start .before .before .u32-bytes .ensures) (start .before .u32-bytes2 .ensures)
+    (c .finish .ensures key _ h₅)
 
 pub first-block-spec : {M : Type 1} → statement M
 first-block-spec =
     tie.close
     (tie.spec
-    u32-bytes-requires
-    u32-bytes-requires-2
-    new-requires
-    slice-aggregate-update
-    update-requires
-    update-requires-2
-    slice-aggregate-update-2
-    update-requires-3
-    update-requires-4
+    (λ c κs. search needs)
+    (λ c κs. search needs)
+    (λ c κs. search needs)
+    (λ c. search needs)
+    (λ c κs. search needs)
+    (λ c κs. search needs)
+    (λ c. search needs)
+    (λ c κs. search needs)
+    (λ c κs. search needs)
     slice-aggregate-update-3
-    update-requires-5
-    finish-requires
+    (λ c κs. search needs)
+    (λ c κs. search needs)
     returns)

@@ -11,11 +11,8 @@ use Rattle.preauth.proofs.asks_for_more.Tie as tie
 returns : tie.Need-returns
 returns c = λ long. absurd (omega arith)
 
-u32-at-requires : tie.Need-u32-at-requires
-u32-at-requires c κs = search needs
-
 returns-2 : tie.Need-returns-2
 returns-2 c = λ long. ap (λ (s : ℕ). eqb s 0xC0000016) (c .u32-at .ensures)
 
 pub asks-for-more-spec : {M : Type 1} → statement M
-asks-for-more-spec = tie.close (tie.spec returns u32-at-requires returns-2)
+asks-for-more-spec = tie.close (tie.spec returns (λ c κs. search needs) returns-2)

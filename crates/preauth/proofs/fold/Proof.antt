@@ -6,14 +6,8 @@ use borrow.Author.Needs.{needs}
 use Rattle.preauth.proofs.fold.Statement.{statement}
 use Rattle.preauth.proofs.fold.Tie as tie
 
-fold-if-requires : tie.Need-fold-if-requires
-fold-if-requires c κs = search needs
-
-same-length : tie.Need-same-length
-same-length c = search needs
-
 returns : tie.Need-returns
 returns c = (c .before .before .fold-if .ensures negotiateMessage (λ fits. refl), c .before .before .fold-if .ensures setupRequest (λ fits. refl))
 
 pub fold-spec : {M : Type 1} → statement M
-fold-spec = tie.close (tie.spec fold-if-requires same-length returns)
+fold-spec = tie.close (tie.spec (λ c κs. search needs) (λ c. search needs) returns)

@@ -1,6 +1,6 @@
--- Right because each return is one way out of `foldAnswer`, and only the last touches the chain: its 64 bytes are the new value.
+-- Right because each return is one way out of the definition, and only the last touches the chain: its 64 bytes are the new value.
 -- Assumes nothing.
-use Rattle.preauth.proofs.FoldLaws.{refused-40, refused-23, left-out, folded, limits}
+use Rattle.preauth.proofs.FoldLaws.{refused-40, refused-23, left-out, folded-in, limits}
 use Rattle.octets.proofs.Paste.{paste-all}
 use borrow.Author.Tests.{not-true, not-false}
 use native.Mathlib.Omega.{arith}
@@ -11,9 +11,6 @@ use Rattle.preauth.proofs.fold_if.Tie as tie
 
 returns : tie.Need-returns
 returns c = λ kind agrees. refused-40 kind (c .before .before .before .args .chain .now) (c .before .before .before .args .message .now) (c .if1 .taken)
-
-admits-requires : tie.Need-admits-requires
-admits-requires c κs = search needs
 
 returns-2 : tie.Need-returns-2
 returns-2 c =
@@ -35,12 +32,6 @@ next-value-requires c κs =
 slice-aggregate-copy : tie.Need-slice-aggregate-copy
 slice-aggregate-copy c = search needs
 
-copy-requires : tie.Need-copy-requires
-copy-requires c κs = search needs
-
-same-length : tie.Need-same-length
-same-length c = search needs
-
 returns-4 : tie.Need-returns-4
 returns-4 c =
     let past = c .before .before .before .before .before .before .before in
@@ -48,19 +39,20 @@ returns-4 c =
     let v = a .chain .now in
     let next = c .before .before .before .before .before .next-value in
     let fits = sym (past .before .before .admits .ensures) ∙ not-false _ (past .before .if2 .left) in
-    let value = c .before .before .copy .ensures ∙ paste-all v 0 (next .result) (omega (arith, slice-aggregate-copy (c .before .before .before))) ∙ next .ensures in
-    λ kind agrees. folded kind v (a .message .now) (past .before .before .before .if1 .left) fits _ (sym (agrees fits) ∙ not-false _ (past .if3 .left)) value
+    let value = c .before .before .copy .ensures ∙ paste-all v 0 (next .result) (omega (arith, slice-aggregate-copy (c .before .before .before))) ∙
+    next .ensures in
+    λ kind agrees. folded-in kind v (a .message .now) (past .before .before .before .if1 .left) fits _ (sym (agrees fits) ∙ not-false _ (past .if3 .left)) value
 
 pub fold-if-spec : {M : Type 1} → statement M
 fold-if-spec =
     tie.close
     (tie.spec
     returns
-    admits-requires
+    (λ c κs. search needs)
     returns-2
     returns-3
     next-value-requires
     slice-aggregate-copy
-    copy-requires
-    same-length
+    (λ c κs. search needs)
+    (λ c. search needs)
     returns-4)

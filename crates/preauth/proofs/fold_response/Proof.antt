@@ -7,15 +7,6 @@ use borrow.Author.Needs.{needs}
 use Rattle.preauth.proofs.fold_response.Statement.{statement}
 use Rattle.preauth.proofs.fold_response.Tie as tie
 
-asks-for-more-requires : tie.Need-asks-for-more-requires
-asks-for-more-requires c κs = search needs
-
-fold-if-requires : tie.Need-fold-if-requires
-fold-if-requires c κs = search needs
-
-same-length : tie.Need-same-length
-same-length c = search needs
-
 returns : tie.Need-returns
 returns c =
     let m = c .before .before .before .before .before .before .before .args .message .now in
@@ -23,4 +14,4 @@ returns c =
 
 pub fold-response-spec : {M : Type 1} → statement M
 fold-response-spec =
-    tie.close (tie.spec asks-for-more-requires fold-if-requires same-length returns)
+    tie.close (tie.spec (λ c κs. search needs) (λ c κs. search needs) (λ c. search needs) returns)

@@ -10,26 +10,15 @@ use borrow.Author.Needs.{needs}
 use Rattle.preauth.proofs.next_value.Statement.{statement}
 use Rattle.preauth.proofs.next_value.Tie as tie
 
-new-requires : tie.Need-new-requires
-new-requires c κs = search needs
-
-update-requires : tie.Need-update-requires
-update-requires c κs = search needs
-
-update-requires-2 : tie.Need-update-requires-2
-update-requires-2 c κs = search needs
-
-finish-requires : tie.Need-finish-requires
-finish-requires c κs = search needs
-
 returns : tie.Need-returns
 returns c =
     let v = c .before .before .before .before .before .before .args .old .now in
     let m = c .before .before .before .before .before .before .args .message .now in
     let joined : length (v ++ m) ≡ length v + length m = length-append v m in
     let sizes = c .before .before .before .before .before .before .pre in
-    c .finish .ensures (v ++ m) (omega arith) (c .before .update2 .ensures v (c .before .before .update .ensures [] (c .before .before .before .new .ensures))) ∙ sym (sha512-is (v ++ m))
+    c .finish .ensures (v ++ m) (omega arith)
+    (c .before .update2 .ensures v (c .before .before .update .ensures [] (c .before .before .before .new .ensures))) ∙ sym (sha512-is (v ++ m))
 
 pub next-value-spec : {M : Type 1} → statement M
 next-value-spec =
-    tie.close (tie.spec new-requires update-requires update-requires-2 finish-requires returns)
+    tie.close (tie.spec (λ c κs. search needs) (λ c κs. search needs) (λ c κs. search needs) (λ c κs. search needs) returns)

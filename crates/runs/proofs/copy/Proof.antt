@@ -18,29 +18,21 @@ abbrev μ-loop : tie.MeasureT-loop
 loop-holds : tie.Need-loop-holds Inv-loop μ-loop
 loop-holds c = let a = c .args in (paste-zero (a .dst .now) (a .at) (a .src .now), omega arith, refl)
 
-shared-slice-read-dst : tie.Need-shared-slice-read-dst Inv-loop μ-loop
-shared-slice-read-dst c = omega arith
-
-add-dst : tie.Need-add-dst Inv-loop μ-loop
-add-dst c = omega arith
-
-slice-write-dst : tie.Need-slice-write-dst Inv-loop μ-loop
-slice-write-dst c = omega arith
-
-add-j : tie.Need-add-j Inv-loop μ-loop
-add-j c = omega arith
-
-loop-less : tie.Need-loop-less Inv-loop μ-loop
-loop-less c = omega arith
-
 loop-again : tie.Need-loop-again Inv-loop μ-loop
-loop-again c = let l = c .before .before in let a = l .before in (paste-turn (a .args .dst .now) (a .args .at) (a .args .src .now) (l .loop .dst) (l .loop .j) (a .args .at + l .loop .j) _ (l .loop .inv .0) refl (omega arith) (omega arith) refl, omega arith, simp length-set (omega arith))
-
-same-length : tie.Need-same-length Inv-loop μ-loop
-same-length c = omega arith
+loop-again c =
+    let l = c .before .before .loop in
+    let a = c .before .before .before .args in (
+      paste-turn (a .dst .now) (a .at) (a .src .now) (l .dst) (l .j) (a .at + l .j) _ (l .inv .0) refl (omega arith) (omega arith) refl,
+      omega arith,
+      simp length-set (omega arith),
+    )
 
 returns : tie.Need-returns Inv-loop μ-loop
-returns c = let l = c .before in let a = l .before in let e : l .loop .j ≡ length (a .args .src .now) = omega arith in l .loop .inv .0 ∙ ap (paste (a .args .dst .now) (a .args .at) (a .args .src .now)) e
+returns c =
+    let l = c .before .loop in
+    let a = c .before .before .args in
+    let e : l .j ≡ length (a .src .now) = omega arith in
+    l .inv .0 ∙ ap (paste (a .dst .now) (a .at) (a .src .now)) e
 
 pub copy-spec : {M : Type 1} → statement M
 copy-spec =
@@ -49,11 +41,11 @@ copy-spec =
     Inv-loop
     μ-loop
     loop-holds
-    shared-slice-read-dst
-    add-dst
-    slice-write-dst
-    add-j
-    loop-less
+    (λ c. omega arith)
+    (λ c. omega arith)
+    (λ c. omega arith)
+    (λ c. omega arith)
+    (λ c. omega arith)
     loop-again
-    same-length
+    (λ c. omega arith)
     returns)

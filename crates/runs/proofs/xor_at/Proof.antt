@@ -21,28 +21,10 @@ abbrev μ-loop : tie.MeasureT-loop
 μ-loop buf₀ at m ks j₀ buf j = m - j
 
 loop-holds : tie.Need-loop-holds Inv-loop μ-loop
-loop-holds c = (paste-zero (now (c .args .buf)) (c .args .at) (xorWith (λ j. getD (c .args .t4) j 0) 0 (drop (c .args .at) (now (c .args .buf)))), omega arith, refl)
-
-add-buf : tie.Need-add-buf Inv-loop μ-loop
-add-buf c = omega arith
-
-slice-read-buf : tie.Need-slice-read-buf Inv-loop μ-loop
-slice-read-buf c = omega arith
-
-array-read-buf : tie.Need-array-read-buf Inv-loop μ-loop
-array-read-buf c = omega arith
-
-add-buf-2 : tie.Need-add-buf-2 Inv-loop μ-loop
-add-buf-2 c = omega arith
-
-slice-write-buf : tie.Need-slice-write-buf Inv-loop μ-loop
-slice-write-buf c = omega arith
-
-add-j : tie.Need-add-j Inv-loop μ-loop
-add-j c = omega arith
-
-loop-less : tie.Need-loop-less Inv-loop μ-loop
-loop-less c = omega arith
+loop-holds c =
+    let a = c .args in
+    let d = now (a .buf) in
+    (paste-zero d (a .at) (xorWith (λ j. getD (a .t4) j 0) 0 (drop (a .at) d)), omega arith, refl)
 
 loop-again : tie.Need-loop-again Inv-loop μ-loop
 loop-again c =
@@ -65,9 +47,6 @@ loop-again c =
       simp length-set (omega arith),
     )
 
-same-length : tie.Need-same-length Inv-loop μ-loop
-same-length c = omega arith
-
 returns : tie.Need-returns Inv-loop μ-loop
 returns c =
     let m : c .before .loop .j ≡ c .before .before .args .m = omega arith in
@@ -80,13 +59,13 @@ xor-at-spec =
     Inv-loop
     μ-loop
     loop-holds
-    add-buf
-    slice-read-buf
-    array-read-buf
-    add-buf-2
-    slice-write-buf
-    add-j
-    loop-less
+    (λ c. omega arith)
+    (λ c. omega arith)
+    (λ c. omega arith)
+    (λ c. omega arith)
+    (λ c. omega arith)
+    (λ c. omega arith)
+    (λ c. omega arith)
     loop-again
-    same-length
+    (λ c. omega arith)
     returns)

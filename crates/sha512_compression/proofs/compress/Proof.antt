@@ -3,39 +3,26 @@
 use denote.Ref.{now}
 use Rattle.sha2.specs.Sha512.{sha512}
 use Rattle.sha2.proofs.Rounds.{compressed}
-use Rattle.sha512_compression.specs.Code.{of}
 use borrow.Author.Needs.{needs}
 use Rattle.sha512_compression.proofs.compress.Statement.{statement}
 use Rattle.sha512_compression.proofs.compress.Tie as tie
 
-parse-requires : tie.Need-parse-requires
-parse-requires c κs = search needs
-
-working-requires : tie.Need-working-requires
-working-requires c κs = search needs
-
-first-rounds-requires : tie.Need-first-rounds-requires
-first-rounds-requires c κs = search needs
-
-last-rounds-requires : tie.Need-last-rounds-requires
-last-rounds-requires c κs = search needs
-
-sums-requires : tie.Need-sums-requires
-sums-requires c κs = search needs
-
 returns : tie.Need-returns
 returns c =
-    let a = c .before .before .before .before .before .before .before .before .before .args in
     let f = c .before .before .before .first-rounds in
-    compressed sha512 (a .hs) (now (a .block)) (c .before .before .before .before .before .before .parse .last .0) (f .last .1 .0) (c .sums .result) (of (c .before .before .before .before .before .working .result)) (of (c .before .last-rounds .result)) (c .before .before .before .before .before .before .parse .ensures .1) (c .before .before .before .before .before .working .ensures) (f .ensures .1) (c .before .last-rounds .ensures _ (f .ensures .2)) (c .sums .ensures)
+    let v = c .before .before .before .before .before .working in
+    let w = c .before .before .before .before .before .before .parse in
+    let a = c .before .before .before .before .before .before .before .before .before .args in
+    compressed sha512 (a .hs) (now (a .block)) (w .last .0) (w .ensures .1) (v .ensures) (f .ensures .1)
+    (c .before .last-rounds .ensures _ (f .ensures .2)) (c .sums .ensures)
 
 pub compress-spec : {M : Type 1} → statement M
 compress-spec =
     tie.close
     (tie.spec
-    parse-requires
-    working-requires
-    first-rounds-requires
-    last-rounds-requires
-    sums-requires
+    (λ c κs. search needs)
+    (λ c κs. search needs)
+    (λ c κs. search needs)
+    (λ c κs. search needs)
+    (λ c κs. search needs)
     returns)

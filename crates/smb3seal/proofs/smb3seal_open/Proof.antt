@@ -1,31 +1,26 @@
--- Right because each lent place holds what the answer of opening under one key says (opens-out).
--- Assumes nothing.
-use Rattle.transform.specs.UnderKey.{protectionOf}
-use Rattle.smb3seal.proofs.Laws.{opens-out}
+-- Right because each lent place holds what the answer of opening under one key says.
+use Rattle.protocol.specs.Connection.{Connection}
+use Rattle.protocol.specs.Calls.{openingUnder, onlyMessage}
+use Rattle.smb3seal.proofs.Laws.{reported}
 use borrow.Author.Needs.{needs}
 use Rattle.smb3seal.proofs.smb3seal_open.Statement.{statement}
 use Rattle.smb3seal.proofs.smb3seal_open.Tie as tie
 
-open-under-requires : tie.Need-open-under-requires
-open-under-requires c κs = search needs
-
-headers-after-requires : tie.Need-headers-after-requires
-headers-after-requires c κs = search needs
-
-number-requires : tie.Need-number-requires
-number-requires c κs = search needs
-
-same-length : tie.Need-same-length
-same-length c = search needs
-
 returns : tie.Need-returns
 returns c =
-    let a = c .before .before .before .before .before .before .before .before .before .args in
-    let open-under = c .before .before .before .before .before .open-under in
-    opens-out (protectionOf (a .dialect) (a .encryption) (a .cipher)) (a .key .now) (a .id) (a .message .now) _ _ (a .headers .now) _ _
-    (c .before .headers-after .ensures) (c .number .ensures) (open-under .ensures)
+    let c5 = c .before .before .before .before .before in
+    let c10 = c5 .before .before .before .before .before in
+    let a = c10 .args in
+    reported (λ (k : Connection). openingUnder k (a .key .now) (a .id)) _ _ (c5 .before .before .under-key .ensures) (onlyMessage (a .message .now)) _ _
+    (c5 .open-under .ensures) _ (c .number .ensures) _ _ (c .before .carried-to .ensures)
 
 pub smb3seal-open-spec : {M : Type 1} → statement M
 smb3seal-open-spec =
     tie.close
-    (tie.spec open-under-requires headers-after-requires number-requires same-length returns)
+    (tie.spec
+    (λ c κs. search needs)
+    (λ c κs. search needs)
+    (λ c κs. search needs)
+    (λ c κs. search needs)
+    (λ c. search needs)
+    returns)

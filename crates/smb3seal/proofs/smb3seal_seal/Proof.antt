@@ -1,46 +1,27 @@
--- Right because each lent place holds what the answer of sealing under one key says (seals-out).
--- Assumes nothing.
-use Rattle.transform.specs.UnderKey.{protectionOf}
-use Rattle.transform.proofs.Sealing.{last-refused}
-use Rattle.smb3seal.proofs.Laws.{seals-out}
+-- Right because each lent place holds what the answer of sealing under one key says.
+use Rattle.protocol.specs.Connection.{Connection}
+use Rattle.protocol.specs.Calls.{sealingUnder, messageAndCounter}
+use Rattle.smb3seal.proofs.Laws.{reported}
 use borrow.Author.Needs.{needs}
 use Rattle.smb3seal.proofs.smb3seal_seal.Statement.{statement}
 use Rattle.smb3seal.proofs.smb3seal_seal.Tie as tie
 
-seal-under-requires : tie.Need-seal-under-requires
-seal-under-requires c κs = search needs
-
-counter-after-requires : tie.Need-counter-after-requires
-counter-after-requires c κs =
-    let a = c .before .before .before .before .before .before .before .args in
-    let seal-under = c .before .before .seal-under in
-    last-refused (protectionOf (a .dialect) (a .encryption) (a .cipher)) (a .key .now) (a .id) (a .counter .now) (a .message .now) _ _
-    (seal-under .ensures)
-
-headers-after-requires : tie.Need-headers-after-requires
-headers-after-requires c κs = search needs
-
-number-requires : tie.Need-number-requires
-number-requires c κs = search needs
-
-same-length : tie.Need-same-length
-same-length c = search needs
-
 returns : tie.Need-returns
 returns c =
-    let a = c .before .before .before .before .before .before .before .before .before .before .before .args in
-    let counter-after = c .before .before .before .counter-after in
-    let seal-under = c .before .before .before .before .before .before .seal-under in
-    seals-out (protectionOf (a .dialect) (a .encryption) (a .cipher)) (a .key .now) (a .id) (a .message .now) _ _ (a .headers .now) _ _
-    (c .before .headers-after .ensures) (c .number .ensures) (a .counter .now) _ (counter-after .ensures) (seal-under .ensures)
+    let c5 = c .before .before .before .before .before in
+    let c10 = c5 .before .before .before .before .before in
+    let a = c10 .before .args in
+    reported (λ (k : Connection). sealingUnder k (a .key .now) (a .id)) _ _ (c5 .before .before .before .under-key .ensures)
+    (messageAndCounter (a .message .now) (a .counter .now)) _ _
+    (c5 .seal-under .ensures) _ (c .number .ensures) _ _ (c .before .carried-to .ensures)
 
 pub smb3seal-seal-spec : {M : Type 1} → statement M
 smb3seal-seal-spec =
     tie.close
     (tie.spec
-    seal-under-requires
-    counter-after-requires
-    headers-after-requires
-    number-requires
-    same-length
+    (λ c κs. search needs)
+    (λ c κs. search needs)
+    (λ c κs. search needs)
+    (λ c κs. search needs)
+    (λ c. search needs)
     returns)

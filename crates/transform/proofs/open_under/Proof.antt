@@ -1,69 +1,65 @@
--- Right because the tests before the tag refuse and leave the message alone, or pass (Opening).
--- Assumes nothing.
-use native.Mathlib.Omega.{arith}
-use Rattle.transform.specs.UnderKey.{protectionOf}
-use Rattle.protocol.proofs.First.{First}
-use Rattle.transform.proofs.Inner.{sized}
-use Rattle.transform.proofs.Opening.{tests-refuse, tests-passed, message-opens}
+-- Right because the lines before the tag refuse and leave the message alone, or pass (Opening).
+use mathlib.Core.Path.{_∙_}
 use borrow.Author.Needs.{needs}
+use Rattle.connection.specs.Reading.{connectionOf}
+use Rattle.transform_header.proofs.HeaderIn.{header-there}
+use Rattle.transform.proofs.Inner.{sized}
+use Rattle.transform.proofs.Opening.{lines-chained, lines-refuse, lines-passed, message-opens}
 use Rattle.transform.proofs.open_under.Statement.{statement}
 use Rattle.transform.proofs.open_under.Tie as tie
 
--- what the tests have shown
-passed : (c : tie.Else1)
-    → let a = c .before .before .before .before .before .args in First (protectionOf (a .dialect) (a .encryption) (a .cipher)) (a .key .now) (a .message .now)
-passed c =
-    let a = c .before .before .before .before .before .args in
-    tests-passed (protectionOf (a .dialect) (a .encryption) (a .cipher)) (a .key .now) (a .id) (a .message .now) _ (c .before .open-under-number .ensures)
-    (c .if1 .left)
-
-open-under-number-requires : tie.Need-open-under-number-requires
-open-under-number-requires c κs = search needs
-
-same-length : tie.Need-same-length
-same-length c = search needs
-
 returns : tie.Need-returns
 returns c =
-    let a = c .before .before .before .before .before .args in
-    tests-refuse (protectionOf (a .dialect) (a .encryption) (a .cipher)) (a .key .now) (a .id) (a .message .now) _ (c .before .open-under-number .ensures)
-    (c .if1 .taken)
-
-bytes-16-requires : tie.Need-bytes-16-requires
-bytes-16-requires c κs = let f = passed c .key-fits in omega arith
-
-cipher-used-requires : tie.Need-cipher-used-requires
-cipher-used-requires c κs = search needs
+    let c5 = c .before .before .before .before .before in
+    let c10 = c5 .before .before .before .before .before in
+    let a = c10 .before .args in
+    let said = lines-chained (connectionOf (a .c)) (a .key .now) (a .id) (a .message .now) _ _ _ _ _ (c5 .before .before .read-header .ensures)
+    (c5 .refuse .ensures)
+    (c .before .before .before .before .header-number .ensures) (c .before .before .message-number .ensures) (c .before .key-number .ensures) in
+    lines-refuse (connectionOf (a .c)) (a .key .now) (a .id) (a .message .now) _ said (c .if1 .taken)
 
 open-message-requires : tie.Need-open-message-requires
 open-message-requires c κs =
-    let a = c .before .before .before .before .before .before .before .before .args in
-    let f = passed (c .before .before .before) in
-    sized (protectionOf (a .dialect) (a .encryption) (a .cipher)) (a .key .now) (a .message .now) f
-
-same-length-2 : tie.Need-same-length-2
-same-length-2 c = search needs
+    let c5 = c .before .before .before .before .before in
+    let c10 = c5 .before .before .before .before .before in
+    let a = c10 .before .before .before .args in
+    let said = lines-chained (connectionOf (a .c)) (a .key .now) (a .id) (a .message .now) _ _ _ _ _
+    (c5 .before .before .before .before .read-header .ensures) (c5 .before .before .refuse .ensures)
+    (c5 .before .header-number .ensures) (c .before .before .before .before .message-number .ensures) (c .before .before .before .key-number .ensures) in
+    let first = lines-passed (connectionOf (a .c)) (a .key .now) (a .id) (a .message .now) _ said (c .before .before .if1 .left) in (
+      first .key-fits,
+      (
+        c5 .before .before .before .before .read-header .ensures ∙ header-there (a .message .now) (first .long),
+        sized (connectionOf (a .c))
+            (a .key .now) (a .message .now) first,
+      ),
+    )
 
 returns-2 : tie.Need-returns-2
 returns-2 c =
-    let a = c .before .before .before .before .before .before .before .before .before .before .before .args in
-    let number = c .before .before .before .before .before .before .before .open-under-number in
-    let test1 = c .before .before .before .before .before .before .if1 in
-    let bytes-16 = c .before .before .before .before .before .bytes-16 in
-    let cipher-used = c .before .before .before .before .cipher-used in
-    let open-message = c .before .before .open-message in
-    message-opens (protectionOf (a .dialect) (a .encryption) (a .cipher)) (a .key .now) (a .id) (a .message .now) _ (number .ensures)
-    (test1 .left) _ _ _ _ (cipher-used .ensures) (bytes-16 .ensures) (open-message .ensures)
+    let c5 = c .before .before .before .before .before in
+    let c10 = c5 .before .before .before .before .before in
+    let c15 = c10 .before .before .before .before .before in
+    let a = c15 .before .args in
+    let said = lines-chained (connectionOf (a .c)) (a .key .now) (a .id) (a .message .now) _ _ _ _ _ (c10 .before .before .read-header .ensures)
+    (c10 .refuse .ensures)
+    (c5 .before .before .before .before .header-number .ensures) (c5 .before .before .message-number .ensures) (c5 .before .key-number .ensures) in
+    message-opens (connectionOf (a .c)) (a .key .now) (a .id) (a .message .now) _ said (c5 .if1 .left) _ _ _
+    (c .before .before .before .before .cipher-used .ensures)
+    (c .before .before .open-message .ensures)
 
 pub open-under-spec : {M : Type 1} → statement M
 open-under-spec =
     tie.close
     (tie.spec
-    open-under-number-requires
-    same-length
+    (λ c κs. search needs)
+    (λ c κs. search needs)
+    (λ c κs. search needs)
+    (λ c κs. search needs)
+    (λ c κs. search needs)
+    (λ c. search needs)
     returns
-    bytes-16-requires
-    cipher-used-requires
+    (λ c κs. search needs)
     open-message-requires
-    same-length-2
+    (λ c. search needs)
     returns-2)

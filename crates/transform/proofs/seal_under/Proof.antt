@@ -1,111 +1,59 @@
--- Right because the tests pass one after the other, and nothing is written before the last (Sealing).
--- Assumes nothing.
+-- Right because nothing is written before the last test, and the counter moves with the message (Sealing).
 use mathlib.Core.Path.{sym, _∙_}
 use native.Mathlib.Omega.{arith}
-use Rattle.transform.specs.UnderKey.{protectionOf}
-use Rattle.protocol.proofs.First.{First, first-passed}
-use Rattle.transform.proofs.Inner.{sized}
-use Rattle.transform.proofs.Sealing.{first-refuses, walk-refuses, counter-refuses, seals}
 use borrow.Author.Needs.{needs}
+use Rattle.protocol.specs.Calls.{sealingUnder, messageAndCounter}
+use Rattle.protocol.proofs.CallLaws.{makes-refused}
+use Rattle.connection.specs.Reading.{connectionOf}
+use Rattle.transform.proofs.Inner.{sized}
+use Rattle.transform.proofs.Sealing.{tests-passed, not-last, seals}
 use Rattle.transform.proofs.seal_under.Statement.{statement}
 use Rattle.transform.proofs.seal_under.Tie as tie
 
--- what the first tests have shown
-passed : (c : tie.Else1)
-    → let a = c .before .before .before .before .before .args in First (protectionOf (a .dialect) (a .encryption) (a .cipher)) (a .key .now) (a .message .now)
-passed c =
-    let a = c .before .before .before .before .before .args in
-    first-passed (protectionOf (a .dialect) (a .encryption) (a .cipher)) (a .key .now) (a .message .now) _ (c .before .seal-under-number .ensures)
-    (c .if1 .left)
-
-seal-under-number-requires : tie.Need-seal-under-number-requires
-seal-under-number-requires c κs = search needs
-
-same-length : tie.Need-same-length
-same-length c = search needs
-
 returns : tie.Need-returns
 returns c =
-    let a = c .before .before .before .before .before .args in
-    first-refuses (protectionOf (a .dialect) (a .encryption) (a .cipher)) (a .key .now) (a .id) (a .counter) (a .message .now) _
-    (c .before .seal-under-number .ensures) (c .if1 .taken)
-
-walk-inner-requires : tie.Need-walk-inner-requires
-walk-inner-requires c κs =
-    let a = c .before .before .before .before .before .before .args in
-    let f = passed (c .before) in
-    sized (protectionOf (a .dialect) (a .encryption) (a .cipher)) (a .key .now) (a .message .now) f
-
-refused-requires : tie.Need-refused-requires
-refused-requires c κs = search needs
-
-same-length-2 : tie.Need-same-length-2
-same-length-2 c = search needs
-
-returns-2 : tie.Need-returns-2
-returns-2 c =
-    let a = c .before .before .before .before .before .before .before .before .before .args in
-    let f = passed (c .before .before .before .before) in
-    let walk-inner = c .before .before .walk-inner in
-    walk-refuses (protectionOf (a .dialect) (a .encryption) (a .cipher)) (a .key .now) (a .id) (a .counter) (a .message .now) f _
-    (walk-inner .ensures) (sym (c .before .refused .ensures) ∙ c .if2 .taken)
-
-same-length-3 : tie.Need-same-length-3
-same-length-3 c = search needs
-
-returns-3 : tie.Need-returns-3
-returns-3 c =
-    let a = c .before .before .before .before .before .before .before .before .before .before .args in
-    let f = passed (c .before .before .before .before .before) in
-    let walk-inner = c .before .before .before .walk-inner in
-    let refused = c .before .before .refused in
-    counter-refuses (protectionOf (a .dialect) (a .encryption) (a .cipher)) (a .key .now) (a .id) (a .counter) (a .message .now) f _
-    (walk-inner .ensures) (sym (refused .ensures) ∙ c .before .if2 .left) (c .if3 .taken)
-
-bytes-16-requires : tie.Need-bytes-16-requires
-bytes-16-requires c κs = let f = passed (c .before .before .before .before .before) .key-fits in omega arith
-
-cipher-used-requires : tie.Need-cipher-used-requires
-cipher-used-requires c κs = search needs
+    let c5 = c .before .before .before .before .before in
+    let a = c5 .before .args in
+    makes-refused (sealingUnder (connectionOf (a .c)) (a .key .now) (a .id)) (messageAndCounter (a .message .now) (a .counter)) _
+    (c .before .before .seal-answer .ensures)
+    (sym (c .before .refused .ensures) ∙ c .if1 .taken)
 
 seal-message-requires : tie.Need-seal-message-requires
 seal-message-requires c κs =
-    let a = c .before .before .before .before .before .before .before .before .before .before .before .before .before .args in
-    let f = passed (c .before .before .before .before .before .before .before .before) in
-    sized (protectionOf (a .dialect) (a .encryption) (a .cipher)) (a .key .now) (a .message .now) f
+    let c5 = c .before .before .before .before .before in
+    let a = c5 .before .before .before .args in
+    let first = tests-passed (connectionOf (a .c)) (a .key .now) (a .id) (a .counter) (a .message .now) _
+    (c .before .before .before .before .seal-answer .ensures) (sym (c .before .before .before .refused .ensures) ∙ c .before .before .if1 .left) in
+    (first .key-fits, sized (connectionOf (a .c)) (a .key .now) (a .message .now) first)
 
-same-length-4 : tie.Need-same-length-4
-same-length-4 c = search needs
+add-t14 : tie.Need-add-t14
+add-t14 c =
+    let c5 = c .before .before .before .before .before in
+    let c10 = c5 .before .before .before .before .before in
+    let a = c10 .before .args in
+    let up = not-last (connectionOf (a .c)) (a .key .now) (a .id) (a .counter) (a .message .now) _ (c5 .before .before .seal-answer .ensures)
+    (sym (c5 .before .refused .ensures) ∙ c5 .if1 .left) in
+    omega arith
 
-returns-4 : tie.Need-returns-4
-returns-4 c =
-    let a = c .before .before .before .before .before .before .before .before .before .before .before .before .before .before .before .before .args in
-    let f = passed (c .before .before .before .before .before .before .before .before .before .before .before) in
-    let walk-inner = c .before .before .before .before .before .before .before .before .before .walk-inner in
-    let refused = c .before .before .before .before .before .before .before .before .refused in
-    let test2 = c .before .before .before .before .before .before .before .if2 in
-    let test3 = c .before .before .before .before .before .before .if3 in
-    let cipher-used = c .before .before .before .before .cipher-used in
-    let bytes-16 = c .before .before .before .before .before .bytes-16 in
-    let seal-message = c .before .before .seal-message in
-    seals (protectionOf (a .dialect) (a .encryption) (a .cipher)) (a .key .now) (a .id) (a .counter) (a .message .now) f _ (walk-inner .ensures)
-    (sym (refused .ensures) ∙ test2 .left) (test3 .left) _ _ _ (cipher-used .ensures) (bytes-16 .ensures) (seal-message .ensures)
+returns-2 : tie.Need-returns-2
+returns-2 c =
+    let c5 = c .before .before .before .before .before in
+    let c10 = c5 .before .before .before .before .before in
+    let a = c10 .before .args in
+    seals (connectionOf (a .c)) (a .key .now) (a .id) (a .counter) (a .message .now) _ (c5 .before .before .seal-answer .ensures)
+    (sym (c5 .before .refused .ensures) ∙ c5 .if1 .left) _ _
+    (c .before .before .before .before .cipher-used .ensures) (c .before .before .seal-message .ensures)
 
 pub seal-under-spec : {M : Type 1} → statement M
 seal-under-spec =
     tie.close
     (tie.spec
-    seal-under-number-requires
-    same-length
+    (λ c κs. search needs)
+    (λ c κs. search needs)
+    (λ c. search needs)
     returns
-    walk-inner-requires
-    refused-requires
-    same-length-2
-    returns-2
-    same-length-3
-    returns-3
-    bytes-16-requires
-    cipher-used-requires
+    (λ c κs. search needs)
     seal-message-requires
-    same-length-4
-    returns-4)
+    add-t14
+    (λ c. search needs)
+    returns-2)

@@ -7,14 +7,8 @@ use borrow.Author.Needs.{needs}
 use Rattle.compound.proofs.header.is_related.Statement.{statement}
 use Rattle.compound.proofs.header.is_related.Tie as tie
 
-add-u32-at : tie.Need-add-u32-at
-add-u32-at c = search needs
-
-u32-at-requires : tie.Need-u32-at-requires
-u32-at-requires c κs = search needs
-
 returns : tie.Need-returns
 returns c = ap (λ (x : ℕ). eqb (x / 4 % 2) 1) (c .u32-at .ensures)
 
 pub is-related-spec : {M : Type 1} → statement M
-is-related-spec = tie.close (tie.spec add-u32-at u32-at-requires returns)
+is-related-spec = tie.close (tie.spec (λ c. search needs) (λ c κs. search needs) returns)

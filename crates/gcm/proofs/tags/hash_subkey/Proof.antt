@@ -6,19 +6,13 @@ use Rattle.ghash.specs.Elements.{Prepared}
 use Rattle.gcm.proofs.tags.hash_subkey.Statement.{statement}
 use Rattle.gcm.proofs.tags.hash_subkey.Tie as tie
 
-encrypt-with-requires : tie.Need-encrypt-with-requires
-encrypt-with-requires c κs = search needs
-
-prepare-requires : tie.Need-prepare-requires
-prepare-requires c κs = search needs
-
 returns : tie.Need-returns
-returns c = subst (Prepared (c .prepare .result)) (ap bigEndian (c .before .encrypt-with .ensures)) (c .prepare .ensures)
+returns c = subst (Prepared (c .prepare .result)) (ap bigEndian (c .before .encrypt-block .ensures)) (c .prepare .ensures)
 
 pub hash-subkey-spec : {M : Type 1} → statement M
 hash-subkey-spec =
     tie.close
     (tie.spec
-    encrypt-with-requires
-    prepare-requires
+    (λ c κs. search needs)
+    (λ c κs. search needs)
     returns)

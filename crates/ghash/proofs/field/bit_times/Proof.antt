@@ -4,13 +4,10 @@ use Rattle.ghash.proofs.WordLaws.{masked}
 use Rattle.ghash.proofs.field.bit_times.Statement.{statement}
 use Rattle.ghash.proofs.field.bit_times.Tie as tie
 
-wrapping-sub-u64-requires : tie.Need-wrapping-sub-u64-requires
-wrapping-sub-u64-requires c κs = search needs
-
 returns : tie.Need-returns
 returns c =
     let k = c .before in
     masked (k .args .b) (c .wrapping-sub-u64 .result) (k .args .x) (search needs) (search needs) (search needs) (search needs)
 
 pub bit-times-spec : {M : Type 1} → statement M
-bit-times-spec = tie.close (tie.spec wrapping-sub-u64-requires returns)
+bit-times-spec = tie.close (tie.spec (λ c κs. search needs) returns)

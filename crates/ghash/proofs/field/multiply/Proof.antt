@@ -6,12 +6,6 @@ use Rattle.ghash.proofs.FieldLaws.{horner-on}
 use Rattle.ghash.proofs.field.multiply.Statement.{statement}
 use Rattle.ghash.proofs.field.multiply.Tie as tie
 
-multiply-word-requires : tie.Need-multiply-word-requires
-multiply-word-requires c κs = search needs
-
-multiply-word-requires-2 : tie.Need-multiply-word-requires-2
-multiply-word-requires-2 c κs = search needs
-
 returns : tie.Need-returns
 returns c =
     let a = c .before .before .args in
@@ -20,4 +14,4 @@ returns c =
     ∙ horner-on 64 64 (a .x .hi) (a .x .lo) (elementOf (a .y)) (search needs)
 
 pub multiply-spec : {M : Type 1} → statement M
-multiply-spec = tie.close (tie.spec multiply-word-requires multiply-word-requires-2 returns)
+multiply-spec = tie.close (tie.spec (λ c κs. search needs) (λ c κs. search needs) returns)

@@ -19,21 +19,6 @@ loop-holds : tie.Need-loop-holds Inv-loop μ-loop
 unfolding horner
 loop-holds c = (refl, omega arith, omega arith)
 
-select-requires : tie.Need-select-requires Inv-loop μ-loop
-select-requires c κs = omega arith
-
-times-x-requires : tie.Need-times-x-requires Inv-loop μ-loop
-times-x-requires c κs = search needs
-
-add-requires : tie.Need-add-requires Inv-loop μ-loop
-add-requires c κs = search needs
-
-add-k : tie.Need-add-k Inv-loop μ-loop
-add-k c = omega arith
-
-loop-less : tie.Need-loop-less Inv-loop μ-loop
-loop-less c = omega arith
-
 loop-again : tie.Need-loop-again Inv-loop μ-loop
 loop-again c =
     let k = c .before .before .before .before in
@@ -58,10 +43,10 @@ multiply-word-spec =
     Inv-loop
     μ-loop
     loop-holds
-    select-requires
-    times-x-requires
-    add-requires
-    add-k
-    loop-less
+    (λ c κs. omega arith)
+    (λ c κs. search needs)
+    (λ c κs. search needs)
+    (λ c. omega arith)
+    (λ c. omega arith)
     loop-again
     returns)

@@ -4,12 +4,6 @@ use Rattle.ghash.proofs.WordLaws.{low-fits, join-timesX}
 use Rattle.ghash.proofs.field.times_x.Statement.{statement}
 use Rattle.ghash.proofs.field.times_x.Tie as tie
 
-bit-times-requires : tie.Need-bit-times-requires
-bit-times-requires c κs = search needs
-
-mul-t7 : tie.Need-mul-t7
-mul-t7 c = search needs
-
 add-t9 : tie.Need-add-t9
 add-t9 c = record { fits = low-fits _ _ (search needs) }
 
@@ -17,4 +11,4 @@ returns : tie.Need-returns
 returns c = join-timesX _ _ _ (search needs) (search needs)
 
 pub times-x-spec : {M : Type 1} → statement M
-times-x-spec = tie.close (tie.spec bit-times-requires mul-t7 add-t9 returns)
+times-x-spec = tie.close (tie.spec (λ c κs. search needs) (λ c. search needs) add-t9 returns)

@@ -11,18 +11,6 @@ use borrow.Author.Needs.{needs}
 use Rattle.hmac.proofs.Mac.finish.Statement.{statement}
 use Rattle.hmac.proofs.Mac.finish.Tie as tie
 
-finish-requires : tie.Need-finish-requires
-finish-requires c κs = search needs
-
-slice-aggregate-update : tie.Need-slice-aggregate-update
-slice-aggregate-update c = search needs
-
-update-requires : tie.Need-update-requires
-update-requires c κs = search needs
-
-finish-requires-2 : tie.Need-finish-requires-2
-finish-requires-2 c κs = search needs
-
 returns : tie.Need-returns
 unfolding hmac
 returns c =
@@ -33,4 +21,9 @@ returns c =
 pub finish-spec : {M : Type 1} → statement M
 finish-spec =
     tie.close
-    (tie.spec finish-requires slice-aggregate-update update-requires finish-requires-2 returns)
+    (tie.spec
+    (λ c κs. search needs)
+    (λ c. search needs)
+    (λ c κs. search needs)
+    (λ c κs. search needs)
+    returns)

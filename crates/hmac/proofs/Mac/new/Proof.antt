@@ -10,54 +10,34 @@ use borrow.Author.Needs.{needs}
 use Rattle.hmac.proofs.Mac.new.Statement.{statement}
 use Rattle.hmac.proofs.Mac.new.Tie as tie
 
-key-block-requires : tie.Need-key-block-requires
-key-block-requires c κs = search needs
-
-xor-repeated-requires : tie.Need-xor-repeated-requires
-xor-repeated-requires c κs = search needs
-
-xor-repeated-requires-2 : tie.Need-xor-repeated-requires-2
-xor-repeated-requires-2 c κs = search needs
-
-new-requires : tie.Need-new-requires
-new-requires c κs = search needs
-
-slice-aggregate-update : tie.Need-slice-aggregate-update
-slice-aggregate-update c = search needs
-
-update-requires : tie.Need-update-requires
-update-requires c κs = search needs
-
-new-requires-2 : tie.Need-new-requires-2
-new-requires-2 c κs = search needs
-
-slice-aggregate-update-2 : tie.Need-slice-aggregate-update-2
-slice-aggregate-update-2 c = search needs
-
-update-requires-2 : tie.Need-update-requires-2
-update-requires-2 c κs = search needs
-
 returns : tie.Need-returns
 returns c =
-    let k = c .before .before .before .before .before .before .before .before .key-block .ensures in
-    let i = c .before .before .before .before .before .before .before .xor-repeated in
-    let o = c .before .before .before .before .before .before .xor-repeated2 in
+    let u = c .before .before .before in
+    let o = u .before .before .before .xor-repeated2 in
+    let i = u .before .before .before .before .xor-repeated in
+    let k = u .before .before .before .before .before .key-block .ensures in
     record {
-      inner = subst (λ (l : List ℕ). code.Holds (c .before .before .before .update .result) l) (i .ensures ∙ ap (λ (l : List ℕ). xor l (replicate 64 0x36)) k ∙ sym (append-nil _)) (c .before .before .before .update .ensures [] (c .before .before .before .before .before .new .ensures));
-      outer = subst (λ (l : List ℕ). code.Holds (c .update2 .result) l) (o .ensures ∙ ap (λ (l : List ℕ). xor l (replicate 64 0x5c)) k) (c .update2 .ensures [] (c .before .before .new2 .ensures));
+      inner =
+          subst (λ (l : List ℕ). code.Holds (u .update .result) l)
+          (i .ensures ∙ ap (λ (l : List ℕ). xor l (replicate 64 0x36)) k ∙ sym (append-nil _))
+          (u .update .ensures [] (u .before .before .new .ensures));
+      outer =
+          subst (λ (l : List ℕ). code.Holds (c .update2 .result) l)
+          (o .ensures ∙ ap (λ (l : List ℕ). xor l (replicate 64 0x5c)) k)
+          (c .update2 .ensures [] (c .before .before .new2 .ensures));
     }
 
 pub new-spec : {M : Type 1} → statement M
 new-spec =
     tie.close
     (tie.spec
-    key-block-requires
-    xor-repeated-requires
-    xor-repeated-requires-2
-    new-requires
-    slice-aggregate-update
-    update-requires
-    new-requires-2
-    slice-aggregate-update-2
-    update-requires-2
+    (λ c κs. search needs)
+    (λ c κs. search needs)
+    (λ c κs. search needs)
+    (λ c κs. search needs)
+    (λ c. search needs)
+    (λ c κs. search needs)
+    (λ c κs. search needs)
+    (λ c. search needs)
+    (λ c κs. search needs)
     returns)

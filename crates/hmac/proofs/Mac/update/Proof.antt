@@ -12,9 +12,6 @@ use borrow.Author.Needs.{needs}
 use Rattle.hmac.proofs.Mac.update.Statement.{statement}
 use Rattle.hmac.proofs.Mac.update.Tie as tie
 
-update-requires : tie.Need-update-requires
-update-requires c κs = search needs
-
 returns : tie.Need-returns
 returns c =
     λ key m s.
@@ -22,4 +19,8 @@ returns c =
     record { inner = subst (λ (l : List ℕ). code.Holds (c .update .result) l) e (c .update .ensures _ (s .inner)); outer = s .outer }
 
 pub update-spec : {M : Type 1} → statement M
-update-spec = tie.close (tie.spec update-requires returns)
+update-spec =
+    tie.close
+    (tie.spec
+    (λ c κs. search needs)
+    returns)

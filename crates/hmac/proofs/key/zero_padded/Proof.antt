@@ -7,14 +7,13 @@ use borrow.Author.Needs.{needs}
 use Rattle.hmac.proofs.key.zero_padded.Statement.{statement}
 use Rattle.hmac.proofs.key.zero_padded.Tie as tie
 
-slice-aggregate-copy : tie.Need-slice-aggregate-copy
-slice-aggregate-copy c = search needs
-
-copy-requires : tie.Need-copy-requires
-copy-requires c κs = search needs
-
 returns : tie.Need-returns
 returns c = c .before .copy .ensures ∙ padded-is 64 (now (c .before .before .before .before .args .s)) (c .before .before .before .before .pre)
 
 pub zero-padded-spec : {M : Type 1} → statement M
-zero-padded-spec = tie.close (tie.spec slice-aggregate-copy copy-requires returns)
+zero-padded-spec =
+    tie.close
+    (tie.spec
+    (λ c. search needs)
+    (λ c κs. search needs)
+    returns)

@@ -28,7 +28,13 @@ copy-requires-3 : tie.Need-copy-requires-3
 copy-requires-3 c κs =
     let two = c .before .before .before in
     let one = two .before .before .before .before .before in
-    omega (arith, slice-aggregate-copy-3 c, two .place2 .given, one .place .given, one .before .before .before .before .before .before .before .before .before .pre)
+    omega (
+      arith,
+      slice-aggregate-copy-3 c,
+      two .place2 .given,
+      one .place .given,
+      one .before .before .before .before .before .before .before .before .before .pre,
+    )
 
 slice-aggregate-copy-4 : tie.Need-slice-aggregate-copy-4
 slice-aggregate-copy-4 c = search needs
@@ -38,10 +44,14 @@ copy-requires-4 c κs =
     let three = c .before .before .before in
     let two = three .before .before .before .before .before in
     let one = two .before .before .before .before .before in
-    omega (arith, slice-aggregate-copy-4 c, three .place3 .given, two .place2 .given, one .place .given, one .before .before .before .before .before .before .before .before .before .pre)
-
-same-length : tie.Need-same-length
-same-length c = search needs
+    omega (
+      arith,
+      slice-aggregate-copy-4 c,
+      three .place3 .given,
+      two .place2 .given,
+      one .place .given,
+      one .before .before .before .before .before .before .before .before .before .pre,
+    )
 
 returns : tie.Need-returns
 returns c =
@@ -70,5 +80,5 @@ write-spec =
     copy-requires-3
     slice-aggregate-copy-4
     copy-requires-4
-    same-length
+    (λ c. search needs)
     returns)

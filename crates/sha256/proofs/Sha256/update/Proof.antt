@@ -15,105 +15,63 @@ use Rattle.sha256.proofs.Sha256.update.Tie as tie
 room : (c : tie.Start) → length (c .args .self .buffer) ≡ 64
 room c = sym (length-map (c .args .self .buffer) _) ∙ c .good .0 .1 .1 .1 .0 .1 .0 .1
 
-wrapping-add-u64-requires : tie.Need-wrapping-add-u64-requires
-wrapping-add-u64-requires c κs = search needs
-
-sub-room : tie.Need-sub-room
-sub-room c = search needs
-
-slice-aggregate-copy : tie.Need-slice-aggregate-copy
-slice-aggregate-copy c = search needs
-
 copy-requires : tie.Need-copy-requires
 copy-requires c κs = let r = room (c .before .before .before .before .before .before .before) in omega arith
 
 returns : tie.Need-returns
 returns c =
+    let t = c .before .before .before .if1 .taken in
+    let n = c .before .before .before .before .before .before .wrapping-add-u64 .ensures in
     let a = c .before .before .before .before .before .before .before .before .before .args in
-    let x = now (a .piece) in
-    let n = c .before .before .before .before .before .before .wrapping-add-u64 in
-    let f = c .before .copy in
-    λ m s. holds-within sha256 x (f .last .0) (n .result) (n .ensures) (omega (arith, n .ensures, c .before .before .before .if1 .taken)) (omega (arith, c .before .before .before .if1 .taken)) (f .ensures) (c .buffer3 .given) s
-
-round-constants-requires : tie.Need-round-constants-requires
-round-constants-requires c κs = search needs
-
-slice-aggregate-copy-2 : tie.Need-slice-aggregate-copy-2
-slice-aggregate-copy-2 c = search needs
+    λ m s. holds-within sha256 (now (a .piece)) n (omega (arith, n, t)) (omega (arith, t)) (c .before .copy .ensures) (c .buffer3 .given) s
 
 slice-aggregate-copy-3 : tie.Need-slice-aggregate-copy-3
-slice-aggregate-copy-3 c = sym (length-take-le _ (now (c .before .before .before .before .before .before .before .before .before .args .piece)) (c .before .before .before .if1 .left))
+slice-aggregate-copy-3 c =
+    let k = c .before .before .before in
+    sym (length-take-le _ (now (k .before .before .before .before .before .before .args .piece)) (k .if1 .left))
 
 copy-requires-2 : tie.Need-copy-requires-2
 copy-requires-2 c κs =
-    let r = room (c .before .before .before .before .before .before .before .before .before) in
-    let e = length-take-le _ (now (c .before .before .before .before .before .before .before .before .before .args .piece)) (c .before .before .before .if1 .left) in
-    omega (arith, e)
-
-slice-aggregate-hash-blocks : tie.Need-slice-aggregate-hash-blocks
-slice-aggregate-hash-blocks c = search needs
-
-hash-blocks-requires : tie.Need-hash-blocks-requires
-hash-blocks-requires c κs = search needs
-
-sub-rest : tie.Need-sub-rest
-sub-rest c = search needs
-
-part-rest-start : tie.Need-part-rest-start
-part-rest-start c = search needs
-
-part-rest-end : tie.Need-part-rest-end
-part-rest-end c = search needs
-
-hash-blocks-requires-2 : tie.Need-hash-blocks-requires-2
-hash-blocks-requires-2 c κs = search needs
-
-mul-whole : tie.Need-mul-whole
-mul-whole c = search needs
-
-slice-aggregate-copy-4 : tie.Need-slice-aggregate-copy-4
-slice-aggregate-copy-4 c = search needs
-
-sub-copy : tie.Need-sub-copy
-sub-copy c = search needs
-
-part-copy-start : tie.Need-part-copy-start
-part-copy-start c = search needs
-
-part-copy-end : tie.Need-part-copy-end
-part-copy-end c = search needs
-
-copy-requires-3 : tie.Need-copy-requires-3
-copy-requires-3 c κs = search needs
+    let k = c .before .before .before in
+    let s = k .before .before .before .before .before .before in
+    let r = room s in
+    omega (arith, length-take-le _ (now (s .args .piece)) (k .if1 .left))
 
 returns-2 : tie.Need-returns-2
 returns-2 c =
-    let n = c .before .before .before .before .before .before .before .before .before .before .before .before .before .before .before .before .before .before .wrapping-add-u64 in
-    λ m s. holds-beyond sha256 (now (c .before .before .before .before .before .before .before .before .before .before .before .before .before .before .before .before .before .before .before .before .before .args .piece)) (c .before .before .before .before .before .before .before .before .before .before .before .copy2 .last .0) (c .before .copy3 .last .0) (c .before .before .before .before .before .before .before .hash-blocks .result) (c .before .before .before .before .hash-blocks2 .result) (n .result) (lit< tt) (n .ensures) (omega (arith, n .ensures, c .before .before .before .before .before .before .before .before .before .before .before .before .before .before .before .if1 .left)) (c .before .before .before .before .before .before .before .before .before .before .before .before .before .before .before .if1 .left) (c .before .before .before .before .before .before .before .before .before .before .before .copy2 .ensures) (c .before .before .before .before .before .before .before .before .before .before .buffer5 .given) (c .before .before .before .before .before .before .before .hash-blocks .ensures) (c .before .before .before .before .hash-blocks2 .ensures) (c .before .copy3 .ensures) (c .buffer8 .given) s
+    let rest = c .before .before .before .before in
+    let first = rest .before .before .before in
+    let full = first .before .before .before in
+    let t = full .before .before .before .before .before in
+    let n = t .before .before .before .wrapping-add-u64 .ensures in
+    let a = t .before .before .before .before .before .before .args in
+    λ m s.
+    holds-beyond sha256 (now (a .piece)) (lit< tt) n (omega (arith, n, t .if1 .left)) (t .if1 .left) (full .before .copy2 .ensures) (full .buffer5 .given)
+    (first .hash-blocks .ensures) (rest .hash-blocks2 .ensures) (c .before .copy3 .ensures) (c .buffer8 .given) s
 
 pub update-spec : {M : Type 1} → statement M
 update-spec =
     tie.close
     (tie.spec
-    wrapping-add-u64-requires
-    sub-room
-    slice-aggregate-copy
+    (λ c κs. search needs)
+    (λ c. search needs)
+    (λ c. search needs)
     copy-requires
     returns
-    round-constants-requires
-    slice-aggregate-copy-2
+    (λ c κs. search needs)
+    (λ c. search needs)
     slice-aggregate-copy-3
     copy-requires-2
-    slice-aggregate-hash-blocks
-    hash-blocks-requires
-    sub-rest
-    part-rest-start
-    part-rest-end
-    hash-blocks-requires-2
-    mul-whole
-    slice-aggregate-copy-4
-    sub-copy
-    part-copy-start
-    part-copy-end
-    copy-requires-3
+    (λ c. search needs)
+    (λ c κs. search needs)
+    (λ c. search needs)
+    (λ c. search needs)
+    (λ c. search needs)
+    (λ c κs. search needs)
+    (λ c. search needs)
+    (λ c. search needs)
+    (λ c. search needs)
+    (λ c. search needs)
+    (λ c. search needs)
+    (λ c κs. search needs)
     returns-2)

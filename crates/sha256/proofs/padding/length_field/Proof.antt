@@ -9,11 +9,12 @@ use borrow.Author.Needs.{needs}
 use Rattle.sha256.proofs.padding.length_field.Statement.{statement}
 use Rattle.sha256.proofs.padding.length_field.Tie as tie
 
-u64-bytes-requires : tie.Need-u64-bytes-requires
-u64-bytes-requires c κs = search needs
-
 returns : tie.Need-returns
 returns c = c .u64-bytes .ensures ∙ big-low 8 (c .before .args .n * 8) ∙ ap (λ (x : ℕ). toBigEndian 8 x) (mul-comm (c .before .args .n) 8)
 
 pub length-field-spec : {M : Type 1} → statement M
-length-field-spec = tie.close (tie.spec u64-bytes-requires returns)
+length-field-spec =
+    tie.close
+    (tie.spec
+    (λ c κs. search needs)
+    returns)

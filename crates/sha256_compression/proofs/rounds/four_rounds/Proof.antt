@@ -6,18 +6,14 @@ use borrow.Author.Needs.{needs}
 use Rattle.sha256_compression.proofs.rounds.four_rounds.Statement.{statement}
 use Rattle.sha256_compression.proofs.rounds.four_rounds.Tie as tie
 
-two-rounds-requires : tie.Need-two-rounds-requires
-two-rounds-requires c κs = search needs
-
-add-two-rounds : tie.Need-add-two-rounds
-add-two-rounds c = search needs
-
-two-rounds-requires-2 : tie.Need-two-rounds-requires-2
-two-rounds-requires-2 c κs = search needs
-
 returns : tie.Need-returns
 returns c = (c .two-rounds2 .ensures .0, goes-more sha256 (c .before .before .two-rounds .ensures .1) (c .two-rounds2 .ensures .1))
 
 pub four-rounds-spec : {M : Type 1} → statement M
 four-rounds-spec =
-    tie.close (tie.spec two-rounds-requires add-two-rounds two-rounds-requires-2 returns)
+    tie.close
+    (tie.spec
+    (λ c κs. search needs)
+    (λ c. search needs)
+    (λ c κs. search needs)
+    returns)

@@ -18,29 +18,8 @@ abbrev μ-loop : tie.MeasureT-loop
 loop-holds : tie.Need-loop-holds Inv-loop μ-loop
 loop-holds c = last-start sha256 (now (c .args .w)) (now (c .args .k)) (of (c .args .s)) (c .pre .0) (c .pre .1)
 
-mul-round : tie.Need-mul-round Inv-loop μ-loop
-mul-round c = omega arith
-
-element-copy-out-round : tie.Need-element-copy-out-round Inv-loop μ-loop
-element-copy-out-round c = omega arith
-
-mul-round-2 : tie.Need-mul-round-2 Inv-loop μ-loop
-mul-round-2 c = omega arith
-
-element-copy-out-round-2 : tie.Need-element-copy-out-round-2 Inv-loop μ-loop
-element-copy-out-round-2 c = omega arith
-
-round-requires : tie.Need-round-requires Inv-loop μ-loop
-round-requires c κs = omega arith
-
-add-j : tie.Need-add-j Inv-loop μ-loop
-add-j c = omega arith
-
-loop-less : tie.Need-loop-less Inv-loop μ-loop
-loop-less c = omega arith
-
 loop-again : tie.Need-loop-again Inv-loop μ-loop
-loop-again c = last-turn sha256 (of (c .round .result)) (c .before .before .before .before .loop .inv) (c .before .before .before .loop-test .taken) (c .round .ensures)
+loop-again c = last-turn sha256 (c .before .before .before .before .loop .inv) (c .before .before .before .loop-test .taken) (c .round .ensures)
 
 returns : tie.Need-returns Inv-loop μ-loop
 returns c = last-end sha256 (c .before .loop .inv) (c .loop-test .left)
@@ -52,12 +31,12 @@ last-rounds-spec =
     Inv-loop
     μ-loop
     loop-holds
-    mul-round
-    element-copy-out-round
-    mul-round-2
-    element-copy-out-round-2
-    round-requires
-    add-j
-    loop-less
+    (λ c. omega arith)
+    (λ c. omega arith)
+    (λ c. omega arith)
+    (λ c. omega arith)
+    (λ c κs. omega arith)
+    (λ c. omega arith)
+    (λ c. omega arith)
     loop-again
     returns)

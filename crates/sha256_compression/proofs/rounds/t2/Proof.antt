@@ -5,18 +5,15 @@ use borrow.Author.Needs.{needs}
 use Rattle.sha256_compression.proofs.rounds.t2.Statement.{statement}
 use Rattle.sha256_compression.proofs.rounds.t2.Tie as tie
 
-big-sigma0-requires : tie.Need-big-sigma0-requires
-big-sigma0-requires c κs = search needs
-
-maj-requires : tie.Need-maj-requires
-maj-requires c κs = search needs
-
-wrapping-add-u32-requires : tie.Need-wrapping-add-u32-requires
-wrapping-add-u32-requires c κs = search needs
-
 returns : tie.Need-returns
 unfolding t2
 returns c = cc
 
 pub t2-spec : {M : Type 1} → statement M
-t2-spec = tie.close (tie.spec big-sigma0-requires maj-requires wrapping-add-u32-requires returns)
+t2-spec =
+    tie.close
+    (tie.spec
+    (λ c κs. search needs)
+    (λ c κs. search needs)
+    (λ c κs. search needs)
+    returns)

@@ -6,18 +6,14 @@ use borrow.Author.Needs.{needs}
 use Rattle.sha512_compression.proofs.rounds.eight_rounds.Statement.{statement}
 use Rattle.sha512_compression.proofs.rounds.eight_rounds.Tie as tie
 
-four-rounds-requires : tie.Need-four-rounds-requires
-four-rounds-requires c κs = search needs
-
-add-four-rounds : tie.Need-add-four-rounds
-add-four-rounds c = search needs
-
-four-rounds-requires-2 : tie.Need-four-rounds-requires-2
-four-rounds-requires-2 c κs = search needs
-
 returns : tie.Need-returns
 returns c = (c .four-rounds2 .ensures .0, goes-more sha512 (c .before .before .four-rounds .ensures .1) (c .four-rounds2 .ensures .1))
 
 pub eight-rounds-spec : {M : Type 1} → statement M
 eight-rounds-spec =
-    tie.close (tie.spec four-rounds-requires add-four-rounds four-rounds-requires-2 returns)
+    tie.close
+    (tie.spec
+    (λ c κs. search needs)
+    (λ c. search needs)
+    (λ c κs. search needs)
+    returns)

@@ -22,14 +22,10 @@ loop-holds c = first-start sha512 (now (c .args .w)) (now (c .args .k)) (of (c .
 eight-rounds-requires : tie.Need-eight-rounds-requires Inv-loop μ-loop
 eight-rounds-requires c κs = first-asks sha512 refl (c .before .before .loop .inv) (c .before .loop-test .taken)
 
-add-j : tie.Need-add-j Inv-loop μ-loop
-add-j c = omega arith
-
-loop-less : tie.Need-loop-less Inv-loop μ-loop
-loop-less c = omega arith
-
 loop-again : tie.Need-loop-again Inv-loop μ-loop
-loop-again c = first-turn sha512 refl (c .before .before .before .loop .inv) (c .before .before .loop-test .taken) (c .eight-rounds .ensures .0) (c .eight-rounds .ensures .1)
+loop-again c =
+    let r = c .eight-rounds .ensures in
+    first-turn sha512 refl (c .before .before .before .loop .inv) (c .before .before .loop-test .taken) (r .0) (r .1)
 
 returns : tie.Need-returns Inv-loop μ-loop
 returns c = first-end sha512 (c .before .loop .inv) (c .loop-test .left)
@@ -37,4 +33,12 @@ returns c = first-end sha512 (c .before .loop .inv) (c .loop-test .left)
 pub first-rounds-spec : {M : Type 1} → statement M
 first-rounds-spec =
     tie.close
-    (tie.spec Inv-loop μ-loop loop-holds eight-rounds-requires add-j loop-less loop-again returns)
+    (tie.spec
+    Inv-loop
+    μ-loop
+    loop-holds
+    eight-rounds-requires
+    (λ c. omega arith)
+    (λ c. omega arith)
+    loop-again
+    returns)

@@ -1,0 +1,65 @@
+// What a connection agreed on (RULES 1 and 6). Every function above takes it by value.
+ghost use mathlib.Core.Path.{_≡_};
+ghost use Rattle.protocol.specs.Connection.{knownDialect, encrypts, cipherUsed, longestMessage, lastCounter};
+ghost use Rattle.connection.specs.Reading.{connectionOf, underKey};
+
+pub enum Role {
+    Client,
+    Server,
+}
+
+pub struct Connection {
+    pub role: Role,
+    pub dialect: u16,
+    pub encryption: bool,
+    pub cipher: u16,
+    pub constrained: bool,
+}
+
+// Numbers 3 and 23.
+pub fn longest_message() -> usize
+    ensures { λ r. ⌜ r ≡ longestMessage ⌝ }
+{
+    1048576
+}
+
+// Number 17: 2^64 - 1.
+pub fn last_counter() -> u64
+    ensures { λ r. ⌜ r ≡ lastCounter ⌝ }
+{
+    18446744073709551615
+}
+
+pub fn known_dialect(dialect: u16) -> bool
+    ensures { λ r. ⌜ r ≡ knownDialect dialect ⌝ }
+{
+    (dialect == 0x0300) | (dialect == 0x0302) | (dialect == 0x0311)
+}
+
+// Number 1 is not given.
+pub fn encrypting(c: Connection) -> bool
+    ensures { λ r. ⌜ r ≡ encrypts (connectionOf c) ⌝ }
+{
+    let named = !(c.dialect == 0x0311) | (c.cipher == 1) | (c.cipher == 2);
+    known_dialect(c.dialect) & c.encryption & !(c.cipher == 0) & named
+}
+
+// Below 3.1.1 always CCM.
+pub fn cipher_used(c: Connection) -> u16
+    ensures { λ r. ⌜ r ≡ cipherUsed (connectionOf c) ⌝ }
+{
+    if c.dialect == 0x0311 { c.cipher } else { 1 }
+}
+
+// A connection by the numbers that a call under one given key takes.
+pub fn under_key(dialect: u16, encryption: u32, cipher: u16) -> Connection
+    ensures { λ r. ⌜ connectionOf r ≡ underKey dialect encryption cipher ⌝ }
+{
+    Connection {
+        role: Role::Client,
+        dialect: dialect,
+        encryption: !(encryption == 0),
+        cipher: cipher,
+        constrained: false,
+    }
+}

@@ -1,0 +1,219 @@
+-- Every call as one value: what it is given, what it tests, what it changes. Its answer and what it leaves are then said once, for all calls.
+-- RULES 2, 5 and 10.
+-- Assumes nothing.
+use mathlib.Core.Bool.{Bool, _&&_}
+use mathlib.Core.List.{List, [], _∷_, _++_}
+use mathlib.Core.Option.{Option, Option·getD}
+use Prim.Native.Nat.{ℕ, _+_}
+use lib.Dec.{eqb}
+use lib.ListN.{length}
+use Rattle.protocol.specs.Bytes.{Bytes}
+use Rattle.protocol.specs.Answer.{Answer, done, whenDone, Test, judge, judgeAfter}
+use Rattle.protocol.specs.Connection.{Connection, cipherUsed}
+use Rattle.protocol.specs.TransformHeader.{inner, sessionIdOf, TransformHeader, headerOf}
+use Rattle.protocol.specs.InnerHeader.{Envelope}
+use Rattle.protocol.specs.Compound.{walk}
+use Rattle.protocol.specs.Keys.{sessionKey, derivedKeys, keysInOrder}
+use Rattle.protocol.specs.Preauth.{FoldKind, folded, foldMark}
+use Rattle.protocol.specs.SessionTable.{Session, sealingKey, openingKey, recordOf, changeRecord, removeRecord, hasFree, fillFree, Adding, newRecord}
+use Rattle.protocol.specs.SessionTable.{countUp, counterStep}
+use Rattle.protocol.specs.Refusals.{notEncrypting, tooShort, tooLong, notTransform, badFlags, otherSession, constrained, guest, badTag, badSize}
+use Rattle.protocol.specs.Refusals.{counterUsedUp, unknownDialect, noKeyMaterial, idZero, idTaken, tableFull, foldLength, badLength}
+use Rattle.protocol.specs.Transform.{Primitives, sealedUnder, plaintextUnder, openedTo}
+
+-- ---- the calls, each with all that it only reads
+
+pub data Call : Type 0 where
+  -- dialect, chain value, key material
+  derivation : ℕ → Bytes → Bytes → Call
+  folding : FoldKind → Bytes → Call
+  -- under one given key, for a session id
+  sealingUnder : Connection → Bytes → ℕ → Call
+  openingUnder : Connection → Bytes → ℕ → Call
+  -- with the session table
+  adding : Adding → Call
+  removing : ℕ → Call
+  -- the counter of the session of this id, by so many
+  stepping : ℕ → ℕ → Call
+  sealing : Connection → ℕ → Call
+  opening : Connection → Call
+
+-- all that a call may be lent to change: "the message buffer, the table, the chain, the place for the keys and a handed-in counter"
+pub record Lent : Type 0 where
+  pub message : Bytes
+  pub table : List Session
+  pub chain : Bytes
+  pub keys : Bytes
+  pub counter : ℕ
+
+-- what a call is lent that is lent nothing but this
+abbrev pub onlyMessage : Bytes → Lent
+onlyMessage m = record { message = m; table = []; chain = []; keys = []; counter = 0 }
+
+abbrev pub messageAndCounter : Bytes → ℕ → Lent
+messageAndCounter m k = record { message = m; table = []; chain = []; keys = []; counter = k }
+
+abbrev pub messageAndTable : Bytes → List Session → Lent
+messageAndTable m t = record { message = m; table = t; chain = []; keys = []; counter = 0 }
+
+abbrev pub onlyTable : List Session → Lent
+onlyTable t = record { message = []; table = t; chain = []; keys = []; counter = 0 }
+
+abbrev pub onlyChain : Bytes → Lent
+onlyChain v = record { message = []; table = []; chain = v; keys = []; counter = 0 }
+
+abbrev pub onlyKeys : Bytes → Lent
+onlyKeys k = record { message = []; table = []; chain = []; keys = k; counter = 0 }
+
+abbrev pub withMessage : Bytes → Lent → Lent
+withMessage m w = record { message = m; table = w .table; chain = w .chain; keys = w .keys; counter = w .counter }
+
+abbrev pub withTable : List Session → Lent → Lent
+withTable t w = record { message = w .message; table = t; chain = w .chain; keys = w .keys; counter = w .counter }
+
+abbrev pub withChain : Bytes → Lent → Lent
+withChain v w = record { message = w .message; table = w .table; chain = v; keys = w .keys; counter = w .counter }
+
+abbrev pub withKeys : Bytes → Lent → Lent
+withKeys k w = record { message = w .message; table = w .table; chain = w .chain; keys = k; counter = w .counter }
+
+abbrev pub withCounter : ℕ → Lent → Lent
+withCounter n w = record { message = w .message; table = w .table; chain = w .chain; keys = w .keys; counter = n }
+
+-- ---- what a call tests: lines of the table of numbers, the walk if there is one, lines after it
+
+-- the inner message that is walked over, or what a done answer carries where there is none
+pub data Inner : Type 0 where
+  carries : ℕ → Inner
+  over : Bytes → Envelope → Inner
+
+pub record Tests : Type 0 where
+  pub before : List Test
+  pub walked : Inner
+  pub later : List Test
+
+abbrev pub walkOver : Inner → Answer
+walkOver (carries n) = done n
+walkOver (over m e) = walk m e
+
+-- "Where several apply, 40 comes first and then the lowest number wins, except inside the walk"
+abbrev pub verdict : Tests → Answer
+verdict t = judge (t .before) (judgeAfter (walkOver (t .walked)) (t .later))
+
+-- lines alone
+abbrev pub lines : List Test → Tests
+lines ts = record { before = ts; walked = carries 0; later = [] }
+
+-- ---- parts that several calls share
+
+-- 40: a cipher key, a chain value
+abbrev pub keyTests : Bytes → List Test
+keyTests key = badLength (eqb (length key) 16) ∷ []
+
+abbrev pub chainTests : Bytes → List Test
+chainTests v = badLength (eqb (length v) 64) ∷ []
+
+-- 1 to 3: every sealing and opening of the buffer m
+abbrev pub messageTests : Connection → Bytes → List Test
+messageTests c m = notEncrypting c ∷ tooShort m ∷ tooLong (inner m) ∷ []
+
+-- 4 and 5: every opening, on the header
+abbrev pub headerTests : TransformHeader → List Test
+headerTests h = notTransform h ∷ badFlags h ∷ []
+
+-- 6 to 8: every sealing and opening with the table, on the record s that lookup took
+abbrev pub recordTests : Connection → Session → List Test
+recordTests c s = otherSession (s .used) ∷ constrained c ∷ guest s ∷ []
+
+-- 9 and 10: every opening, before the walk
+abbrev pub textTests : Bytes → Option Bytes → List Test
+textTests m text = badTag text ∷ badSize (headerOf m) (length (inner m)) ∷ []
+
+-- 18 and 19: deriving and adding
+abbrev pub materialTests : ℕ → Bytes → List Test
+materialTests dialect material = unknownDialect dialect ∷ noKeyMaterial material ∷ []
+
+-- "Derivation alone tests 18 and 19", and 40 before them
+abbrev pub derivationTests : ℕ → Bytes → Bytes → Bytes → List Test
+derivationTests dialect chain material place = badLength (eqb (length chain) 64 && eqb (length place) 64) ∷ materialTests dialect material
+
+-- "adding 18 to 22", and 40 before them; whether a used record has the id, and whether there is a free one
+abbrev pub addTests : Adding → Bool → Bool → List Test
+addTests a taken room =
+    chainTests (a .chain) ++ (materialTests (a .dialect) (a .material) ++ (idZero (a .id) ∷ idTaken taken ∷ tableFull room ∷ []))
+
+-- ---- sealing and opening with a record
+
+module _ (P : Primitives) (c : Connection) (m : Bytes) (s : Session) where
+  -- "sealing 1, 2, 3, 6, 7, 8, 11 to 16, 17"
+  unfoldable pub sealTests : ℕ → Tests
+  sealTests id = record { before = messageTests c m ++ recordTests c s; walked = over (inner m) (record { id = id }); later = counterUsedUp (s .counter) ∷ [] }
+
+  abbrev pub sealedWith : ℕ → Bytes
+  sealedWith id = sealedUnder (P .ciphers) (cipherUsed c) (sealingKey (c .role) (s .keys)) (s .counter) id (inner m)
+
+  abbrev pub plaintext : Option Bytes
+  plaintext = plaintextUnder (P .ciphers) (cipherUsed c) (openingKey (c .role) (s .keys)) m
+
+  -- "Opening tests 1 to 16"
+  unfoldable pub openTests : Tests
+  openTests =
+      record {
+        before = messageTests c m ++ (headerTests (headerOf m) ++ (recordTests c s ++ textTests m plaintext));
+        walked = over (Option·getD plaintext []) (record { id = sessionIdOf m });
+        later = [];
+      }
+
+-- ---- one clause for one call
+
+module _ (P : Primitives) where
+  unfoldable pub tests : Call → Lent → Tests
+  tests (derivation dialect chain material) w =
+      lines (derivationTests dialect chain material (w .keys))
+  -- 40, 23; "23 is tested before the status"
+  tests (folding kind m) w = record { before = chainTests (w .chain) ++ (foldLength m ∷ []); walked = carries (foldMark kind m); later = [] }
+  -- "Under one given key, 7 and 8 do not arise", and "sealing has no 6"
+  tests (sealingUnder c key id) w =
+      record {
+        before = keyTests key ++ messageTests c (w .message);
+        walked = over (inner (w .message)) (record { id = id });
+        later = counterUsedUp (w .counter) ∷ [];
+      }
+  tests (openingUnder c key id) w =
+      let m = w .message in
+      let text = plaintextUnder (P .ciphers) (cipherUsed c) key m in
+      record {
+        before = keyTests key ++ (messageTests c m ++ (headerTests (headerOf m) ++ (otherSession (eqb (sessionIdOf m) id) ∷ textTests m text)));
+        walked = over (Option·getD text []) (record { id = id });
+        later = [];
+      }
+  tests (adding a) w = lines (addTests a ((recordOf (a .id) (w .table)) .used) (hasFree (w .table)))
+  -- "or answers 6 if there is none"
+  tests (removing i) w = lines (otherSession ((recordOf i (w .table)) .used) ∷ [])
+  tests (stepping i by) w = lines []
+  tests (sealing c id) w = sealTests P c (w .message) (recordOf id (w .table)) id
+  tests (opening c) w = openTests P c (w .message) (recordOf (sessionIdOf (w .message)) (w .table))
+
+  -- what it leaves where it answers 0
+  unfoldable pub effect : Call → Lent → Lent
+  effect (derivation dialect chain material) w = withKeys (keysInOrder (derivedKeys (P .kdf) dialect chain (sessionKey material))) w
+  effect (folding kind m) w = withChain (folded (P .sha512) kind (w .chain) m) w
+  effect (sealingUnder c key id) w =
+      withCounter (w .counter + 1) (withMessage (sealedUnder (P .ciphers) (cipherUsed c) key (w .counter) id (inner (w .message))) w)
+  effect (openingUnder c key id) w = withMessage (openedTo (w .message) (plaintextUnder (P .ciphers) (cipherUsed c) key (w .message))) w
+  effect (adding a) w = withTable (fillFree (newRecord (P .kdf) a) (w .table)) w
+  effect (removing i) w = withTable (removeRecord i (w .table)) w
+  effect (stepping i by) w = withTable (changeRecord (counterStep by) i (w .table)) w
+  effect (sealing c id) w =
+      withTable (changeRecord countUp id (w .table)) (withMessage (sealedWith P c (w .message) (recordOf id (w .table)) id) w)
+  -- it "never changes the table"
+  effect (opening c) w = withMessage (openedTo (w .message) (plaintext P c (w .message) (recordOf (sessionIdOf (w .message)) (w .table)))) w
+
+  -- ---- and once for all calls
+
+  abbrev pub answer : Call → Lent → Answer
+  answer c w = verdict (tests c w)
+
+  -- "In every other case" all of it is "as .. lent"
+  abbrev pub left : Call → Lent → Lent
+  left c w = whenDone (answer c w) (λ n. effect c w) w

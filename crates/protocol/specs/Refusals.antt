@@ -1,0 +1,113 @@
+-- The table of RULES 2: one definition for one line, in the table's order, under the name that
+-- include/smb3seal.h has for the number. Which call tests which of them, and in which order, is said in Calls.
+-- Assumes nothing.
+use mathlib.Core.Bool.{Bool, not, _&&_, _||_}
+use mathlib.Core.Option.{Option}
+use Prim.Native.Nat.{ℕ, _+_, _%_}
+use lib.Dec.{leb, ltb, eqb}
+use lib.ListN.{length}
+use Rattle.octets.specs.Maybe.{isSome}
+use Rattle.protocol.specs.Bytes.{Bytes}
+use Rattle.protocol.specs.Answer.{Test, refuse_when_}
+use Rattle.protocol.specs.Connection.{Connection, knownDialect, encrypts, longestMessage, lastCounter}
+use Rattle.protocol.specs.TransformHeader.{TransformHeader}
+use Rattle.protocol.specs.InnerHeader.{isInnerHeader, isRelated, innerSessionId, Envelope}
+use Rattle.protocol.specs.Preauth.{admitted}
+use Rattle.protocol.specs.SessionTable.{Session}
+
+-- "dialect not one of the three, or encryption off, or cipher 0, or dialect 3.1.1 with a cipher other than 1 or 2"
+abbrev pub notEncrypting : Connection → Test
+notEncrypting c = refuse 1 when not (encrypts c)
+
+-- "whole message at most 52 bytes"
+abbrev pub tooShort : Bytes → Test
+tooShort m = refuse 2 when leb (length m) 52
+
+-- "more than 1,048,576 bytes after the transform header", which are p
+abbrev pub tooLong : Bytes → Test
+tooLong p = refuse 3 when ltb longestMessage (length p)
+
+-- "first four bytes not FD 53 4D 42"
+abbrev pub notTransform : TransformHeader → Test
+notTransform h = refuse 4 when not (h .begins)
+
+-- "Flags not 0x0001"
+abbrev pub badFlags : TransformHeader → Test
+badFlags h = refuse 5 when not (eqb (h .flags) 1)
+
+-- "no used record has this id", or, under one given key, "a transform header with another id"
+abbrev pub otherSession : Bool → Test
+otherSession known = refuse 6 when not known
+
+-- "connection is constrained"
+abbrev pub constrained : Connection → Test
+constrained c = refuse 7 when c .constrained
+
+-- "record is guest or anonymous"
+abbrev pub guest : Session → Test
+guest s = refuse 8 when s .guest || s .anonymous
+
+-- "tag differs": there is no plaintext
+abbrev pub badTag : Option Bytes → Test
+badTag text = refuse 9 when not (isSome text)
+
+-- "OriginalMessageSize differs from the bytes after the header", which are n
+abbrev pub badSize : TransformHeader → ℕ → Test
+badSize h n = refuse 10 when not (eqb (h .size) n)
+
+-- "inner message under 64 bytes"
+abbrev pub innerTooShort : Bytes → Test
+innerTooShort m = refuse 11 when ltb (length m) 64
+
+-- "an inner header does not begin FE 53 4D 42": the one at p
+abbrev pub notHeader : Bytes → ℕ → Test
+notHeader m p = refuse 12 when not (isInnerHeader m p)
+
+-- "first inner header has the related flag"
+abbrev pub firstRelated : Bytes → Test
+firstRelated m = refuse 13 when isRelated m 0
+
+-- "inner SessionId differs from the transform's": of the header at p, where it is compared
+abbrev pub innerSession : Bool → Bytes → Envelope → ℕ → Test
+innerSession compared m e p = refuse 14 when compared && not (eqb (innerSessionId m p) (e .id))
+
+-- "next header under 64 bytes away, or not wholly inside": d bytes after the one at p
+abbrev pub nextOutside : Bytes → ℕ → ℕ → Test
+nextOutside m p d = refuse 15 when ltb d 64 || ltb (length m) (p + d + 64)
+
+-- "next header not on an 8-byte boundary"
+abbrev pub nextUnaligned : ℕ → Test
+nextUnaligned d = refuse 16 when not (eqb (d % 8) 0)
+
+-- "send counter is 2^64 - 1"
+abbrev pub counterUsedUp : ℕ → Test
+counterUsedUp counter = refuse 17 when eqb counter lastCounter
+
+-- "adding: dialect not one of the three"
+abbrev pub unknownDialect : ℕ → Test
+unknownDialect dialect = refuse 18 when not (knownDialect dialect)
+
+-- "adding: empty session key"
+abbrev pub noKeyMaterial : Bytes → Test
+noKeyMaterial material = refuse 19 when eqb (length material) 0
+
+-- "adding: id 0"
+abbrev pub idZero : ℕ → Test
+idZero id = refuse 20 when eqb id 0
+
+-- "adding: a used record has this id"
+abbrev pub idTaken : Bool → Test
+idTaken taken = refuse 21 when taken
+
+-- "adding: no free record"
+abbrev pub tableFull : Bool → Test
+tableFull room = refuse 22 when not room
+
+-- "folding: message under 64 or over 1,048,576 bytes"
+abbrev pub foldLength : Bytes → Test
+foldLength m = refuse 23 when not (admitted m)
+
+-- "a lent cipher or signing key (not key material) is not 16, a lent chain value not 64 (on every dialect), or the place for the four keys
+-- not 64 bytes long": whether all that is lent has its length
+abbrev pub badLength : Bool → Test
+badLength fits = refuse 40 when not fits

@@ -1,4 +1,0 @@
-pub mod Numbers
-pub mod Sealing
-pub mod Opening
-pub mod AddingLaws

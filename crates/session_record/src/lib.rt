@@ -1,0 +1,201 @@
+// One session record by value, and what each call with the session table does with it (RULES 7 and the numbers 1 to 22).
+mod lines;
+mod new;
+
+use answer::Answer;
+use connection::Connection;
+use connection::Role;
+ghost use mathlib.Core.Path.{_≡_};
+ghost use Rattle.protocol.specs.SessionTable.{counterStep, sealingKey, openingKey};
+ghost use Rattle.answer.specs.Reading.{answerOf};
+ghost use Rattle.connection.specs.Reading.{roleOf, connectionOf};
+ghost use Rattle.session_record.specs.Reading.{free, isWanted, sessionOf};
+ghost use Rattle.session_record.specs.Contracts.{SealsWith, counterMoves, OpensWith, namedId, removedOf};
+ghost use Rattle.session_record.specs.Adds.{addingOf, AddsWith};
+
+pub struct Session {
+    pub used: bool,
+    pub id: u64,
+    pub guest: bool,
+    pub anonymous: bool,
+    pub signing: [u8; 16],
+    pub application: [u8; 16],
+    pub client_to_server: [u8; 16],
+    pub server_to_client: [u8; 16],
+    pub counter: u64,
+}
+
+// What adding takes beside the key material and the chain value.
+pub struct Adding {
+    pub dialect: u16,
+    pub id: u64,
+    pub guest: bool,
+    pub anonymous: bool,
+}
+
+// What adding and removing give: the number of RULES 2, and the record after it.
+pub struct Changed {
+    pub number: u32,
+    pub session: Session,
+}
+
+// A free record, all zero.
+pub fn vacant() -> Session
+    ensures { λ r. ⌜ r ≡ free ⌝ }
+{
+    let none = [0u8; 16];
+    Session {
+        used: false,
+        id: 0,
+        guest: false,
+        anonymous: false,
+        signing: none,
+        application: none,
+        client_to_server: none,
+        server_to_client: none,
+        counter: 0,
+    }
+}
+
+// Whether a record is what a search wants: where `used`, the session of this id; else a free one.
+pub fn wanted(s: Session, used: bool, id: u64) -> bool
+    ensures { λ r. ⌜ r ≡ isWanted used id s ⌝ }
+{
+    let there = s.used;
+    if used {
+        if there {
+            return s.id == id;
+        }
+        return false;
+    }
+    !there
+}
+
+// The counter step: up by that many, and unchanged where it would pass the last.
+pub fn step_record(s: Session, by: u64) -> Session
+    ensures { λ r. ⌜ sessionOf r ≡ counterStep by (sessionOf s) ⌝ }
+{
+    let n = s.counter;
+    if by > connection::last_counter() - n {
+        return s;
+    }
+    let mut t = s;
+    t.counter = n + by;
+    t
+}
+
+// A client seals with the first cipher key, a server with the second.
+fn sealing_key(s: Session, role: Role) -> [u8; 16]
+    ensures { λ r. ⌜ r ≡ sealingKey (roleOf role) (sessionOf s .keys) ⌝ }
+{
+    match role {
+        Role::Client => s.client_to_server,
+        Role::Server => s.server_to_client,
+    }
+}
+
+// And opens with the other.
+fn opening_key(s: Session, role: Role) -> [u8; 16]
+    ensures { λ r. ⌜ r ≡ openingKey (roleOf role) (sessionOf s .keys) ⌝ }
+{
+    match role {
+        Role::Client => s.server_to_client,
+        Role::Server => s.client_to_server,
+    }
+}
+
+// The session that a message names, 0 where it is too short for a header.
+pub fn session_id(message: &[u8]) -> u64
+    ensures { λ r. ⌜ r ≡ namedId (now (message .entry)) ⌝ }
+{
+    let h = transform_header::read_header(message);
+    h.session_id
+}
+
+// Seals the message in place: 1, 2, 3, 6, 7, 8, 11 to 16, 17. Refused, the message is as it was.
+pub fn seal_record(s: Session, c: Connection, id: u64, message: &mut [u8]) -> Answer
+    ensures { λ r. ⌜ SealsWith (sessionOf s) (connectionOf c) id (now (message .entry)) (now (message .exit)) (answerOf r) ⌝ }
+{
+    let role = c.role;
+    let line6 = lines::record_number(s, c);
+    let first = refusals::message_number(c, message, line6);
+    if first != 0 {
+        return Answer::Refused(first);
+    }
+    let key = sealing_key(s, role);
+    let sealed = transform::seal_under(c, &key, s.counter, id, message);
+    let out = sealed.answer;
+    out
+}
+
+// How far a sealing that answered so moves the counter.
+pub fn counter_moves(a: Answer) -> u64
+    ensures { λ r. ⌜ r ≡ counterMoves (answerOf a) ⌝ }
+{
+    match a {
+        Answer::Done(_) => 1,
+        Answer::Refused(_) => 0,
+    }
+}
+
+// Opens the message in place: 1 to 16. Refused, the message is as it was.
+pub fn open_record(s: Session, c: Connection, message: &mut [u8]) -> Answer
+    ensures { λ r. ⌜ OpensWith (sessionOf s) (connectionOf c) (now (message .entry)) (now (message .exit)) (answerOf r) ⌝ }
+{
+    let role = c.role;
+    let h = transform_header::read_header(message);
+    let line6 = lines::record_number(s, c);
+    let line4 = refusals::header_number(h, line6);
+    let first = refusals::message_number(c, message, line4);
+    if first != 0 {
+        return Answer::Refused(first);
+    }
+    let key = opening_key(s, role);
+    transform::open_under(c, &key, h.session_id, message)
+}
+
+// Adds: 40, 18 to 22. `there` is the record of the id, `old` the one at the first free place, which `room` says there is.
+pub fn add_record(
+    a: Adding,
+    there: Session,
+    old: Session,
+    room: bool,
+    material: &[u8],
+    chain: &[u8],
+) -> Changed
+    ensures { λ r. ⌜ AddsWith (addingOf a (now (chain .entry)) (now (material .entry))) (there .used) room (sessionOf old) (r .number) (sessionOf (r .session)) ⌝ }
+{
+    let taken = there.used;
+    let mut place = [0u8; 64];
+    let first = keys::derive(a.dialect, material, chain, &mut place);
+    let n = lines::place_number(first, a.id, taken, room);
+    if n != 0 {
+        return Changed {
+            number: n,
+            session: old,
+        };
+    }
+    let s = new::fresh(a, place);
+    Changed {
+        number: n,
+        session: s,
+    }
+}
+
+// Takes the session out, its keys with it: 6.
+pub fn remove_record(s: Session) -> Changed
+    ensures { λ r. ⌜ r ≡ removedOf s ⌝ }
+{
+    let there = s.used;
+    let none = vacant();
+    if there {
+        return Changed {
+            number: 0,
+            session: none,
+        };
+    }
+    Changed {
+        number: 6,
+        session: none,
+    }
+}

@@ -1,9 +1,0 @@
--- The table of the code, read as document 01's.
--- Assumes nothing.
-use mathlib.Core.List.{List, map}
-use Rattle.protocol.specs.SessionTable as protocol
-use Rattle.session.specs.declared.Session.{Session}
-use Rattle.session.specs.Records.{sessionOf}
-
-abbrev pub tableOf : List Session → List protocol.Session
-tableOf t = map sessionOf t

@@ -1,0 +1,150 @@
+// The calls with a session table that the caller holds by value: what `session_table` does with a lent run of records, for a program
+// that keeps its table in a local. Each finds the place, takes the record there by value, and puts back what `session_record` makes of it.
+use answer::Answer;
+use connection::Connection;
+use session_record::Adding;
+use session_record::Session;
+ghost use mathlib.Core.Path.{_≡_};
+ghost use lib.ListN.{length, replicate};
+ghost use Rattle.protocol.specs.SessionTable.{recordOf, changeRecord, counterStep};
+ghost use Rattle.protocol.specs.Calls.{adding, removing, sealing, opening, onlyTable, messageAndTable};
+ghost use Rattle.protocol.specs.Contract.{Makes, Returns};
+ghost use Rattle.answer.specs.Reading.{answerOf};
+ghost use Rattle.connection.specs.Reading.{connectionOf};
+ghost use Rattle.session_record.specs.Reading.{free, isWanted, sessionOf};
+ghost use Rattle.session_record.specs.Adds.{addingOf};
+ghost use Rattle.session_table.specs.Reading.{tableOf};
+ghost use Rattle.session_table.specs.Place.{first, recordAt, putAt};
+
+// How many records a table has.
+pub const RECORDS: usize = 16;
+
+pub struct Table {
+    pub records: [Session; RECORDS],
+}
+
+// What adding and removing give: the number of RULES 2, and the table after it.
+pub struct ChangedIn {
+    pub number: u32,
+    pub table: Table,
+}
+
+// What sealing gives: the answer, and the table after it.
+pub struct SealedIn {
+    pub answer: Answer,
+    pub table: Table,
+}
+
+// A table of free records.
+pub fn empty() -> Table
+    ensures { λ r. ⌜ r .records ≡ replicate (length (r .records)) free ⌝ }
+{
+    let none = session_record::vacant();
+    Table {
+        records: [none; RECORDS],
+    }
+}
+
+// The place of the first record that is wanted, or how many there are where there is none.
+fn find(t: Table, used: bool, id: u64) -> usize
+    ensures { λ r. ⌜ r ≡ first (isWanted used id) (t .records) ⌝ }
+{
+    let mut i: usize = 0;
+    while i < RECORDS {
+        let s = t.records[i];
+        if session_record::wanted(s, used, id) {
+            return i;
+        }
+        i += 1;
+    }
+    i
+}
+
+// The record at a place, or a free one past the end.
+fn at(t: Table, i: usize) -> Session
+    ensures { λ r. ⌜ r ≡ recordAt i (t .records) ⌝ }
+{
+    if i < RECORDS {
+        return t.records[i];
+    }
+    session_record::vacant()
+}
+
+// The table with a record at a place; past the end nothing changes.
+fn put_at(from: Table, i: usize, s: Session) -> Table
+    ensures { λ r. ⌜ r .records ≡ putAt i s (from .records) ⌝ }
+{
+    let mut t = from;
+    if i < RECORDS {
+        t.records[i] = s;
+    }
+    t
+}
+
+// The first used record with the id, or a free one where there is none.
+pub fn lookup_in(from: Table, id: u64) -> Session
+    ensures { λ r. ⌜ sessionOf r ≡ recordOf id (tableOf (from .records)) ⌝ }
+{
+    let i = find(from, true, id);
+    at(from, i)
+}
+
+// The counter step of the session of the id: up by that many, and unchanged where it would pass the last.
+pub fn step_in(from: Table, id: u64, by: u64) -> Table
+    ensures { λ r. ⌜ tableOf (r .records) ≡ changeRecord (counterStep by) id (tableOf (from .records)) ⌝ }
+{
+    let i = find(from, true, id);
+    let s = at(from, i);
+    put_at(from, i, session_record::step_record(s, by))
+}
+
+// Adds a session of a new id in the first free record: 40, 18 to 22, or 0. Refused, the table is as it was.
+pub fn add_in(from: Table, a: Adding, material: &[u8], chain: &[u8]) -> ChangedIn
+    ensures { λ r. ⌜ Returns (adding (addingOf a (now (chain .entry)) (now (material .entry)))) (onlyTable (tableOf (from .records))) (r .number) (onlyTable (tableOf (r .table .records))) ⌝ }
+{
+    let i = find(from, true, a.id);
+    let there = at(from, i);
+    let f = find(from, false, 0);
+    let old = at(from, f);
+    let room = f < RECORDS;
+    let added = session_record::add_record(a, there, old, room, material, chain);
+    ChangedIn {
+        number: added.number,
+        table: put_at(from, f, added.session),
+    }
+}
+
+// Takes the session of the id out, its keys with it: 6, or 0.
+pub fn remove_in(from: Table, id: u64) -> ChangedIn
+    ensures { λ r. ⌜ Returns (removing id) (onlyTable (tableOf (from .records))) (r .number) (onlyTable (tableOf (r .table .records))) ⌝ }
+{
+    let i = find(from, true, id);
+    let s = at(from, i);
+    let removed = session_record::remove_record(s);
+    ChangedIn {
+        number: removed.number,
+        table: put_at(from, i, removed.session),
+    }
+}
+
+// Seals the message in place for the session of the id: 1, 2, 3, 6, 7, 8, 11 to 16, 17. Refused, message and table are as they were.
+pub fn seal_in(from: Table, c: Connection, id: u64, message: &mut [u8]) -> SealedIn
+    ensures { λ r. ⌜ Makes (sealing (connectionOf c) id) (messageAndTable (now (message .entry)) (tableOf (from .records))) (answerOf (r .answer)) (messageAndTable (now (message .exit)) (tableOf (r .table .records))) ⌝ }
+{
+    let s = lookup_in(from, id);
+    let out = session_record::seal_record(s, c, id, message);
+    let moves = session_record::counter_moves(out);
+    SealedIn {
+        answer: out,
+        table: step_in(from, id, moves),
+    }
+}
+
+// Opens the message in place with the session that its header names: 1 to 16. Refused, the message is as it was lent.
+pub fn open_in(from: Table, c: Connection, message: &mut [u8]) -> Answer
+    ensures { λ r. ⌜ Makes (opening (connectionOf c)) (messageAndTable (now (message .entry)) (tableOf (from .records))) (answerOf r) (messageAndTable (now (message .exit)) (tableOf (from .records))) ⌝ }
+{
+    let named = session_record::session_id(message);
+    let s = lookup_in(from, named);
+    session_record::open_record(s, c, message)
+}

@@ -1,0 +1,29 @@
+-- Right because the one test is the definition's, and where it fails nothing is touched.
+-- Assumes nothing.
+use Rattle.test_primitives.proofs.Laws.{seals, seals-not, ccm-sized}
+use borrow.Author.Needs.{needs}
+use Rattle.test_primitives.proofs.ccm_calls.primitives_ccm_seal.Statement.{statement}
+use Rattle.test_primitives.proofs.ccm_calls.primitives_ccm_seal.Tie as tie
+
+seal-sized-requires : tie.Need-seal-sized-requires
+seal-sized-requires c κs =
+    let a = c .before .before .before .before .before .before .before .before .args in
+    ccm-sized (a .key .now) (a .nonce .now) (a .text .now) (a .aad .now) (a .tag .now) (c .before .before .if1 .taken)
+
+returns : tie.Need-returns
+returns c =
+    let s = c .before .before .before .before .seal-sized .ensures in
+    seals _ _ _ _ _ _ _ (c .before .before .before .before .before .before .before .if1 .taken) (s .0) (s .1)
+
+returns-2 : tie.Need-returns-2
+returns-2 c = seals-not _ _ _ _ _ (c .if1 .left)
+
+pub primitives-ccm-seal-spec : {M : Type 1} → statement M
+primitives-ccm-seal-spec =
+    tie.close
+    (tie.spec
+    seal-sized-requires
+    (λ c. search needs)
+    (λ c. search needs)
+    returns
+    returns-2)
