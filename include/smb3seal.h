@@ -58,6 +58,11 @@ extern "C" {
 #define SMB3SEAL_CIPHER_AES_128_CCM 1
 #define SMB3SEAL_CIPHER_AES_128_GCM 2
 
+/* ---- roles */
+
+#define SMB3SEAL_CLIENT 0
+#define SMB3SEAL_SERVER 1
+
 /* ---- lengths */
 
 #define SMB3SEAL_HEADER_BYTES 52         /* the transform header, before every sealed message */
@@ -203,6 +208,46 @@ uint32_t smb3seal_seal(uint16_t dialect, uint32_t encryption, uint16_t cipher, c
  */
 uint32_t smb3seal_open(uint16_t dialect, uint32_t encryption, uint16_t cipher, const uint8_t *key, size_t key_len,
                        uint64_t session_id, uint8_t *message, size_t message_len, uint64_t *headers);
+
+/* ---- the session table */
+
+/* What a connection agreed on. Handed over by value, and every byte of it counts: begin with {0}. */
+struct smb3seal_connection {
+    uint16_t dialect;    /* SMB3SEAL_DIALECT_.. */
+    uint16_t cipher;     /* SMB3SEAL_CIPHER_..; below 3.1.1 any number but 0 means AES-128-CCM */
+    uint8_t role;        /* SMB3SEAL_CLIENT or SMB3SEAL_SERVER: this end's; with any other number nothing counts as agreed: number 1 */
+    uint8_t encryption;  /* 0 for off, anything else for on */
+    uint8_t constrained; /* 0 for no, anything else for yes: number 7 */
+    uint8_t spare;       /* 0; with any other number nothing counts as agreed: number 1 */
+};
+
+/* A record of the table. Any bytes are a record, and zero bytes a free one. */
+struct smb3seal_session {
+    uint64_t id;
+    uint64_t counter; /* the next nonce of this end's sealing key */
+    uint8_t signing[16];
+    uint8_t application[16];
+    uint8_t client_to_server[16];
+    uint8_t server_to_client[16];
+    uint8_t used;      /* 0 for a free record, anything else for a session's */
+    uint8_t guest;     /* 0 for no, anything else for yes */
+    uint8_t anonymous; /* 0 for no, anything else for yes */
+    uint8_t spare[5];
+};
+
+size_t smb3seal_table_find(const struct smb3seal_session *table, size_t table_len, uint64_t session_id);
+
+uint32_t smb3seal_table_add(struct smb3seal_session *table, size_t table_len, struct smb3seal_connection connection,
+                            uint64_t session_id, uint32_t guest, uint32_t anonymous, const uint8_t *material, size_t material_len,
+                            const uint8_t *chain, size_t chain_len);
+
+uint32_t smb3seal_table_remove(struct smb3seal_session *table, size_t table_len, uint64_t session_id);
+
+uint32_t smb3seal_table_seal(struct smb3seal_session *table, size_t table_len, struct smb3seal_connection connection,
+                             uint64_t session_id, uint8_t *message, size_t message_len, uint64_t *headers);
+
+uint32_t smb3seal_table_open(const struct smb3seal_session *table, size_t table_len, struct smb3seal_connection connection,
+                             uint8_t *message, size_t message_len, uint64_t *headers);
 
 #ifdef __cplusplus
 }
