@@ -312,8 +312,8 @@ static inline uint32_t smb3seal_connection_open(struct smb3seal_connection conne
 struct smb3seal_session {
     uint64_t id;                  /* the SessionId */
     uint64_t counter;             /* the next nonce of this end's sealing key */
-    uint8_t signing[16];          /* the four keys, as smb3seal_derive writes them */
-    uint8_t application[16];
+    uint8_t signing[16];          /* the keys that smb3seal_derive writes, in its order */
+    uint8_t application[16];      /* for the application above */
     uint8_t client_to_server[16]; /* 16 zero bytes where the session is guest or anonymous */
     uint8_t server_to_client[16]; /* 16 zero bytes where the session is guest or anonymous */
     uint8_t used;                 /* 0 for a free record, anything else for a session's */
