@@ -77,14 +77,14 @@ pub fn adding_for(c: Connection, id: u64, guest: u32, anonymous: u32) -> Adding
 pub fn wanted(s: Session, used: bool, id: u64) -> bool
     ensures { λ r. ⌜ r ≡ isWanted used id s ⌝ }
 {
-    let there = s.used != 0;
+    let in_use = s.used != 0;
     if used {
-        if there {
+        if in_use {
             return s.id == id;
         }
         return false;
     }
-    !there
+    !in_use
 }
 
 // The counter step: up by that many, and unchanged where it would pass the last. No other byte of the record changes.
