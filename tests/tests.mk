@@ -2,7 +2,7 @@
 # needs is missing.
 
 TEST_HEADERS = $(wildcard tests/*.h) include/smb3seal.h $(BUILD)/smb3_vectors.h
-SHARED = check openssl_aead model call messages generate
+SHARED = check openssl_aead model call messages generate guard
 LIBRARY_TESTS = vectors_test numbers_test lengths_test walk_test bits_test random_test guard_test
 
 # Each program twice: as it is, and with the sanitizers.
