@@ -87,17 +87,20 @@ tshark:
 run-tshark: $(BUILD)/plain/capture
 	@scripts/tshark-check $(BUILD)/plain/capture $(BUILD)/tshark
 
-# A bounded run of the fuzzer, on demand. What it finds goes to $(BUILD)/fuzz; the inputs that it keeps, to $(BUILD)/fuzz/inputs.
+# A bounded run of each fuzzer, on demand. What they find goes to $(BUILD)/fuzz; the inputs that they keep, to folders in it.
 FUZZ_SECONDS ?= 60
-$(BUILD)/fuzz/fuzz: $(patsubst %,tests/%.c,fuzz $(SHARED)) $(TEST_HEADERS) $(ARCHIVE)
+FUZZ = -max_total_time=$(FUZZ_SECONDS) -max_len=4096 -print_final_stats=1 -artifact_prefix=$(BUILD)/fuzz/
+FUZZERS = $(BUILD)/fuzz/fuzz $(BUILD)/fuzz/table_fuzz
+$(FUZZERS): $(BUILD)/fuzz/%: tests/%.c $(SHARED:%=tests/%.c) $(TEST_HEADERS) $(ARCHIVE)
 	@mkdir -p $(@D)
 	clang $(WARNINGS) -O1 -g -fsanitize=fuzzer,address,undefined -fno-sanitize-recover=all $(filter %.c %.a,$^) -lcrypto -o $@
 
 fuzz: setup-fuzz
-	@$(MAKE) --no-print-directory $(BUILD)/fuzz/fuzz
+	@$(MAKE) --no-print-directory $(FUZZERS)
 	scripts/fuzz-seeds $(BUILD)/fuzz/inputs
-	$(BUILD)/fuzz/fuzz -max_total_time=$(FUZZ_SECONDS) -max_len=4096 -print_final_stats=1 -artifact_prefix=$(BUILD)/fuzz/ \
-	    $(BUILD)/fuzz/inputs
+	$(BUILD)/fuzz/fuzz $(FUZZ) $(BUILD)/fuzz/inputs
+	@mkdir -p $(BUILD)/fuzz/table_inputs
+	$(BUILD)/fuzz/table_fuzz $(FUZZ) $(BUILD)/fuzz/table_inputs
 
 # Samba's client and server through the library, on demand: installing Samba may start its service, and a server has to run as root.
 $(BUILD)/plain/reseal: $(BUILD)/plain/reseal.o $(ARCHIVE)
