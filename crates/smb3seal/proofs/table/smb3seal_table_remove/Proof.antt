@@ -1,38 +1,40 @@
--- Right because a free record is put in the place of the one that lookup takes, and the number tells whether that was used. A walk of the MIR, by hand: the table is lent as `&` for `find` and `at`, comes back, and goes to `put_at` for good.
+-- Right because a free record is put in the place of the one that lookup takes, and the number tells whether that was used. A walk of the MIR, by hand:
+-- the table is lent as `&` for `find` and `at`, comes back, and goes to `put_at` for good.
 -- Assumes nothing.
 use Rattle.session_table.proofs.Kit.{_≡_, refl, ℕ, _<_, _^_, true, List, [], _∷_, length, URA, fullShare, named, w32, w64, Val, vint, SProp, ent, emp, via, id⊢, fst∗, Lft, GName, Share, ftrue, flft, Memory, Routine, Heap, Calls, Loops, WpFn, Tables, Atoms, Fun, givenOf, tables, tablesOf, Given, ‵, raw, _⊛_, ⋆, _$_, _∵_, !, qed, by, move, drop, use0, split, join, fsplit, fjoin, suffices, frame, done, whole, sub, look-in, look, init, stop, fld, from, load, true-lit, of-opd, assigns, land, no-more, and-then, returns, enter, alloc1, alloc0, params1, pass1, pass0, FmC, fmOf, WpFn-mono, owns, Is, uint-makes, uint-vals, uint-tells, uint-lawful, u64, u32, RefT, now, sliceVal, MutSlice, Room, finally, slice-vals, mut-slice-tells, plain, owned, nothing, Vals, onEntry, Meets, tripleOf, Contract, Triple, entered, cited, says, Stays, stay-none, gave-slice, walkOf, goes-none, goes-gave-slice, ends-at, walked, walk-meets, yes}
 use denote.Struct.Laws as LL
 use Rattle.session_record.specs.declared.Session.{Session}
 use Rattle.session_record.specs.Contracts.{removedOf}
 use Rattle.session_record.proofs.Changed as Ch
 use Rattle.session_record.proofs.Changed.Laws as Ch′
 use Rattle.session_table.proofs.Walk.{R, mach, typed, record-owned}
 use Rattle.session_table.proofs.Values.{mach-t, changed-typed}
 use Rattle.session_table.proofs.Leaving.{leaves, holds}
 use Rattle.session_table.proofs.Operands.{local, reborrows}
 use Rattle.protocol.specs.Calls.{removing, onlyTable}
 use Rattle.protocol.specs.Contract.{Returns}
 use Rattle.session_table.specs.Reading.{tableOf}
+use Rattle.session_table.specs.Exactly.{Exactly}
 use Rattle.session_table.proofs.TableCalls.{removed-says}
 use Rattle.session_table.proofs.Said.{calls-said}
 use Rattle.session_table.proofs.Lending.{ref-at, lend, back, Finds, Gets, Puts, calls-find, calls-get, calls-put}
 use Rattle.session_table.proofs.find.Symbol as find-def
 use Rattle.session_table.proofs.find.Symbol.{name as #session-table·find}
 use Rattle.session_table.proofs.find.Met as find-thm
 use Rattle.session_table.proofs.at.Symbol as at-def
 use Rattle.session_table.proofs.at.Symbol.{name as #session-table·at}
 use Rattle.session_table.proofs.at.Met as at-thm
 use Rattle.session_table.proofs.put_at.Symbol as put-at-def
 use Rattle.session_table.proofs.put_at.Symbol.{name as #session-table·put-at}
 use Rattle.session_table.proofs.put_at.Met as put-at-thm
 use Rattle.session_record.proofs.remove_record as remove-record
 use Rattle.session_record.proofs.remove_record.Symbol as remove-record-def
 use Rattle.session_record.proofs.remove_record.Symbol.{name as #session-record·remove-record}
 use Rattle.session_record.proofs.remove_record.Met as remove-record-thm
-use Rattle.session_table.proofs.remove.Key.{name as #session-table·remove}
-use Rattle.session_table.proofs.remove as remove
-use Rattle.session_table.proofs.remove.Statement as stated
-use Rattle.session_table.proofs.remove.Code as code
+use Rattle.smb3seal.proofs.table.smb3seal_table_remove.Key.{name as #smb3seal·table·smb3seal-table-remove}
+use Rattle.smb3seal.proofs.table.smb3seal_table_remove as remove
+use Rattle.smb3seal.proofs.table.smb3seal_table_remove.Statement as stated
+use Rattle.smb3seal.proofs.table.smb3seal_table_remove.Code as code
 
 abbrev stayed : Stays (remove.ended .signature .params) (remove.ended .kept)
 stayed = (gave-slice (0 ∷ []) tt (plain (λ _. R)), (stay-none (λ _. u64) yes, tt))
@@ -60,7 +62,10 @@ module _ {M : Type 1} (𝓤 : URA M) (H : Heap 𝓤) (A : Atoms 𝓤) (W : Given
   abbrev Post : Val → SProp 𝓤
   Post = walkOf 𝓤 H A remove.ended stayed (remove.clauses 𝓤 H A mem run) .post (((κ, tt), (q, tt), tt, a, vals), tt)
 
-  exits : (r : ℕ) (v : Val) (zs : List Session) → Is u32 r (v ∷ []) → length zs ≡ length ys → Returns (removing id) (onlyTable (tableOf ys)) r (onlyTable (tableOf zs))
+  abbrev Removed : ℕ → List Session → Type 0
+  Removed r zs = Returns (removing id) (onlyTable (tableOf ys)) r (onlyTable (tableOf zs)) × Exactly (removing id) (onlyTable (tableOf ys)) ys zs
+
+  exits : (r : ℕ) (v : Val) (zs : List Session) → Is u32 r (v ∷ []) → length zs ≡ length ys → Removed r zs
       → ent 𝓤 (⋆ 𝓤 H A (‵ (flft κ q) ∷ ‵ (finally R γ zs) ∷ [])) (Post v)
   exits r v zs is lz said =
       qed W (‵ (flft κ q) ∷ ‵ (finally R γ zs) ∷ []) ∵
@@ -106,11 +111,11 @@ remove-meets 𝓤 H A W mem run 𝓣 kf kg kr kp =
     (λ κs. (slice-vals, (uint-vals w64, tt))) (λ κs. (mut-slice-tells (named 0) (κs .0) R, (uint-tells w64, tt)))
     (λ κs qs bounds a g are. via 𝓤 _ (fst∗ 𝓤 _ (emp 𝓤)) (walk 𝓤 H A W mem run (κs .0) (qs .0) (a .0 .ptr .0) (a .0 .ptr .1) (a .0 .name) (a .0 .now) (a .1 .0) (are .0 .0 .1) (are .1 .0 .1) (𝓣 .C) (𝓣 .Λ) (fmOf 𝓤 H (W .laws) 𝓣) kf kg kr kp)))
 
-pub remove-spec : {M : Type 1} → stated.statement M
+pub smb3seal-table-remove-spec : {M : Type 1} → stated.statement M
 unfolding code.routine tablesOf
-remove-spec 𝓤 H 𝓜 𝓖 𝓡 =
+smb3seal-table-remove-spec 𝓤 H 𝓜 𝓖 𝓡 =
     entered 𝓤 H (tripleOf 𝓤 H (𝓖 .A) remove.signature (remove.spec 𝓤 H (𝓖 .A) (𝓜 .mem) (𝓡 .run)))
-    (tables 𝓤 H 𝓜 𝓡 code.env .C) (tables 𝓤 H 𝓜 𝓡 code.env .Λ) #session-table·remove code.function (code.unfolded 𝓤 H 𝓜 𝓡)
+    (tables 𝓤 H 𝓜 𝓡 code.env .C) (tables 𝓤 H 𝓜 𝓡 code.env .Λ) #smb3seal·table·smb3seal-table-remove code.function (code.unfolded 𝓤 H 𝓜 𝓡)
     (remove-meets 𝓤 H (𝓖 .A) (givenOf 𝓤 H 𝓜 𝓖) (𝓜 .mem) (𝓡 .run) (tablesOf 𝓤 H 𝓜 (tables 𝓤 H 𝓜 𝓡 code.env))
     (cited 𝓤 H (Finds 𝓤 H (𝓖 .A) (𝓜 .mem) (𝓡 .run)) 𝓜 𝓡 code.env #session-table·find find-def.routine code.calls-session-table·find (find-thm.met 𝓤 H 𝓜 𝓖 𝓡))
     (cited 𝓤 H (Gets 𝓤 H (𝓖 .A) (𝓜 .mem) (𝓡 .run)) 𝓜 𝓡 code.env #session-table·at at-def.routine code.calls-session-table·at (at-thm.met 𝓤 H 𝓜 𝓖 𝓡))
