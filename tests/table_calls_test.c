@@ -1,7 +1,7 @@
 /*
  * The calls with a session table, with what they leave written out: the layout of the two structs, the record that adding makes, what
  * removing and sealing change and what they do not, lookup among records that share an id, published keys and messages, two ends that
- * talk to each other, both sides of every limit.
+ * talk to each other, lengths that only 64 bits can hold.
  */
 #define _DEFAULT_SOURCE
 #include <string.h>
@@ -308,19 +308,7 @@ static void two_ends(uint16_t dialect, uint16_t cipher)
     }
 }
 
-/* ---- limits */
-
-static void limits(uint16_t cipher)
-{
-    for (size_t n = LIMIT - 1; n <= LIMIT + 1; n++) {
-        struct table_call c = plain_table_call(TABLE_SEAL, cipher, n);
-        if (n > LIMIT) c.table[PLACE].used = 0;
-        expect_table_answer(&c, n > LIMIT ? 3 : 0, "sealing this length");
-        c.function = TABLE_OPEN;
-        c.connection.role = SMB3SEAL_SERVER;
-        expect_table_answer(&c, n > LIMIT ? 3 : 0, "opening this length");
-    }
-}
+/* ---- lengths that only 64 bits can hold */
 
 /* Lengths of 2^32 and a little: none is taken for the little. The bytes are there, but no page of them is used. */
 static void wide_buffers(void)
@@ -382,7 +370,6 @@ int main(int argc, char **argv)
         }
         counter_end(cipher);
         compound(cipher);
-        limits(cipher);
         for (size_t i = 0; i < COUNT(dialects); i++) two_ends(dialects[i], cipher);
     }
     lookups();

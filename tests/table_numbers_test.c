@@ -1,7 +1,7 @@
 /*
- * Each number but 3 (table_calls_test.c) by the calls with a session table, and which comes first. Every set of faults is made at once
- * and must get the number of the first of them in the order of the rules. Then whole fields: every value of each byte of the
- * connection and of a record's flags, every dialect and cipher, each id that differs in one bit.
+ * Each number by the calls with a session table, and which comes first. Every set of faults is made at once and must get the number of
+ * the first of them in the order of the rules; 3, which takes a megabyte, is made by itself. And whole fields: every value of each byte
+ * of the connection and of a record's flags, every dialect and cipher, each id that differs in one bit.
  */
 #include <string.h>
 
@@ -123,6 +123,19 @@ static void sums(uint16_t cipher)
         c.connection.constrained = 1;
         c.table[PLACE].guest = 1;
         expect_table_answer(&c, 7, "P4: a constrained connection and a guest");
+    }
+}
+
+/* 1,048,576 inner bytes pass. With one more it is 3, before any test of the session. */
+static void limits(uint16_t cipher)
+{
+    for (size_t n = LIMIT - 1; n <= LIMIT + 1; n++) {
+        struct table_call c = plain_table_call(TABLE_SEAL, cipher, n);
+        if (n > LIMIT) c.table[PLACE].used = 0;
+        expect_table_answer(&c, n > LIMIT ? 3 : 0, "sealing this length");
+        c.function = TABLE_OPEN;
+        c.connection.role = SMB3SEAL_SERVER;
+        expect_table_answer(&c, n > LIMIT ? 3 : 0, "opening this length");
     }
 }
 
@@ -337,5 +350,7 @@ int main(int argc, char **argv)
     every_cipher(0x0300);
     every_cipher(0x0302);
     every_cipher(0x0311);
+    limits(1);
+    limits(2);
     return finish();
 }

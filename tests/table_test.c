@@ -1,7 +1,7 @@
 /*
  * Random lists of calls on a session table of any bytes, by the library and by the model: the same answers, and after each call the
  * same bytes in the whole table and in all else that was lent. At the end every number that a function can answer must have come up,
- * but 3: table_calls_test.c has it.
+ * but 3: table_numbers_test.c has it.
  *
  * Usage: table_test [SEED [LISTS [FIRST]]]: a list is made again by its number, with LISTS 1.
  */
