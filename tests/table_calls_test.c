@@ -1,7 +1,7 @@
 /*
  * The calls with a session table, with what they leave written out: the layout of the two structs, the record that adding makes, what
- * removing and sealing change and what they do not, lookup among records that share an id, published keys and messages, two ends that
- * talk to each other, lengths that only 64 bits can hold.
+ * removing and sealing change and what they do not, lookup among records that share an id, each length from 0 to 116, published keys
+ * and messages, two ends that talk to each other, lengths that only 64 bits can hold.
  */
 #define _DEFAULT_SOURCE
 #include <string.h>
@@ -222,6 +222,28 @@ static void empty_table(void)
     }
 }
 
+/* ---- short messages, with the session in the table and with no record at all */
+
+static void short_messages(uint16_t cipher, size_t records)
+{
+    for (size_t n = 0; n <= TRANSFORM + HEADER; n++) {
+        uint32_t found = records == 0 ? 6 : n < TRANSFORM + HEADER ? 11 : 0;
+        struct table_call c = plain_table_call(TABLE_SEAL, cipher, HEADER);
+        begin_case(n);
+        c.table_len = records;
+        c.message.len = n;
+        expect_table_answer(&c, n <= TRANSFORM ? 2 : found, "sealing a short message");
+        c = plain_table_call(TABLE_OPEN, cipher, HEADER);
+        struct call under = under_key(&c);
+        under.message.len = n > TRANSFORM ? n : TRANSFORM + 1;
+        put_transform(&under, n);
+        forge(&under);
+        c.table_len = records;
+        c.message.len = n;
+        expect_table_answer(&c, n <= TRANSFORM ? 2 : found, "opening a short message");
+    }
+}
+
 /* ---- published vectors */
 
 static void published_keys(const struct derivation *d)
@@ -370,6 +392,8 @@ int main(int argc, char **argv)
         }
         counter_end(cipher);
         compound(cipher);
+        short_messages(cipher, RECORDS);
+        short_messages(cipher, 0);
         for (size_t i = 0; i < COUNT(dialects); i++) two_ends(dialects[i], cipher);
     }
     lookups();
