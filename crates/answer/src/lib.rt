@@ -39,6 +39,14 @@ pub fn carried_to(a: Answer, lent: u64) -> u64
     }
 }
 
+// To C: the number is returned, and what a done answer carries goes to its place.
+pub fn report(a: Answer, place: &mut u64) -> u32
+    ensures { λ r. ⌜ (r ≡ answerNumber (answerOf a)) × (now (place .exit) ≡ carried (answerOf a) (now (place .entry))) ⌝ }
+{
+    *place = carried_to(a, *place);
+    number(a)
+}
+
 // A line of the table of numbers: n where it applies, else what the later lines say.
 pub fn refuse(n: u32, when: bool, later: u32) -> u32
     ensures { λ r. ⌜ r ≡ cond when n later ⌝ }

@@ -1,20 +1,26 @@
--- The structs of the code, read as the records of the rules.
+-- The struct of the code, any bytes of which C may lend, read as the record of the rules.
 -- Assumes nothing.
-use mathlib.Core.Bool.{false, not}
+use mathlib.Core.Bool.{Bool, false, cond, not, _&&_}
 use Prim.Native.Nat.{ℕ}
-use lib.Dec.{eqb}
+use lib.Dec.{eqb, leb}
 use Rattle.protocol.specs.Connection as rules
-use Rattle.connection.specs.declared.Role.{Role}
-use Rattle.connection.specs.declared.Role.the-variants.{Client, Server}
 use Rattle.connection.specs.declared.Connection.{Connection}
 
-abbrev pub roleOf : Role → rules.Role
-roleOf Client = rules.client
-roleOf Server = rules.server
+-- a byte as a flag: 0 for no, anything else for yes
+abbrev pub flag : ℕ → Bool
+flag x = not (eqb x 0)
+
+-- 0 for a client, 1 for a server
+abbrev pub roleOf : ℕ → rules.Role
+roleOf r = cond (eqb r 0) rules.client rules.server
+
+-- a role above 1 or a spare byte other than 0: nothing was agreed, so that a stray byte never picks a key
+abbrev pub agreed : Connection → Bool
+agreed c = flag (c .encryption) && leb (c .role) 1 && eqb (c .spare) 0
 
 abbrev pub connectionOf : Connection → rules.Connection
 connectionOf c =
-    record { role = roleOf (c .role); dialect = c .dialect; encryption = c .encryption; cipher = c .cipher; constrained = c .constrained }
+    record { role = roleOf (c .role); dialect = c .dialect; encryption = agreed c; cipher = c .cipher; constrained = flag (c .constrained) }
 
 -- what a call under one given key is told of its connection, as numbers: the dialect, encryption (0 for off, anything else for on) and
 -- the cipher. Such a call looks neither at the role nor at the constraint

@@ -3,17 +3,19 @@ ghost use mathlib.Core.Path.{_≡_};
 ghost use Rattle.protocol.specs.Connection.{knownDialect, encrypts, cipherUsed, longestMessage, lastCounter};
 ghost use Rattle.connection.specs.Reading.{connectionOf, underKey};
 
-pub enum Role {
-    Client,
-    Server,
-}
+pub const CLIENT: u8 = 0;
 
+pub const SERVER: u8 = 1;
+
+// struct smb3seal_connection: any bytes are a connection. A role above 1 or a spare byte other than 0 means that nothing was agreed.
+#[repr(C)]
 pub struct Connection {
-    pub role: Role,
     pub dialect: u16,
-    pub encryption: bool,
     pub cipher: u16,
-    pub constrained: bool,
+    pub role: u8,
+    pub encryption: u8,
+    pub constrained: u8,
+    pub spare: u8,
 }
 
 // Numbers 3 and 23.
@@ -41,7 +43,8 @@ pub fn encrypting(c: Connection) -> bool
     ensures { λ r. ⌜ r ≡ encrypts (connectionOf c) ⌝ }
 {
     let named = !(c.dialect == 0x0311) | (c.cipher == 1) | (c.cipher == 2);
-    known_dialect(c.dialect) & c.encryption & !(c.cipher == 0) & named
+    let agreed = (c.encryption != 0) & (c.role <= 1) & (c.spare == 0);
+    known_dialect(c.dialect) & agreed & !(c.cipher == 0) & named
 }
 
 // Below 3.1.1 always CCM.
@@ -55,11 +58,13 @@ pub fn cipher_used(c: Connection) -> u16
 pub fn under_key(dialect: u16, encryption: u32, cipher: u16) -> Connection
     ensures { λ r. ⌜ connectionOf r ≡ underKey dialect encryption cipher ⌝ }
 {
+    let on = if encryption == 0 { 0 } else { 1 };
     Connection {
-        role: Role::Client,
         dialect: dialect,
-        encryption: !(encryption == 0),
         cipher: cipher,
-        constrained: false,
+        role: CLIENT,
+        encryption: on,
+        constrained: 0,
+        spare: 0,
     }
 }

@@ -23,6 +23,8 @@ use Rattle.protocol.proofs.CallLaws.{number-lines, lines-done, left-done}
 use Rattle.protocol.proofs.Judging.{positive, positive-first, positive-rest, refuses, passes, judge-passed}
 use Rattle.protocol.proofs.SuiteLaws.{suite-sound}
 use Rattle.session_record.specs.declared.Adding.{Adding}
+use Rattle.session_record.specs.declared.Session.{Session}
+use Rattle.session_record.specs.Reading.{bitOf, stored}
 use Rattle.session_record.specs.Adds.{addingOf, recordWith, AddsWith}
 
 -- ---- the four keys, in their order and back
@@ -114,7 +116,7 @@ in-turn ((refuse n when true) ∷ ts) us p = go (eqb n 0) refl
     go false q = refl
 in-turn ((refuse n when false) ∷ ts) us p = in-turn ts us (positive-rest n ts p)
 
-module _ (a : Adding) (chain material : Bytes) (taken room : Bool) (old : table.Session) (f : ℕ) (after : Bytes)
+module _ (a : Adding) (chain material : Bytes) (taken room : Bool) (old : Session) (f : ℕ) (after : Bytes)
     (d : Returns (derivation (a .dialect) chain material) (onlyKeys (replicate 64 0)) f (onlyKeys after)) (n : ℕ)
     (e : n ≡ cond (eqb f 0) (firstOf (idZero (a .id) ∷ idTaken taken ∷ tableFull room ∷ [])) f) where
   abbrev x : table.Adding
@@ -140,7 +142,7 @@ module _ (a : Adding) (chain material : Bytes) (taken room : Bool) (old : table.
   pub add-refused : (n ≡ 0 → ⊥) → AddsWith x taken room old n old
   add-refused h =
       let q = refuses (addTests x taken room) (done 0) n number-is h in
-      record { number = answered; session = sym (ap (λ (v : Answer). whenDone v (λ k. table.newRecord kdf x) old) q) }
+      record { number = answered; session = sym (ap (λ (v : Answer). whenDone v (λ k. stored (table.newRecord kdf x)) old) q) }
 
   module _ (z : n ≡ 0) where
     written : after ≡ keysInOrder (derivedKeys kdf (a .dialect) chain (sessionKey material))
@@ -159,10 +161,10 @@ module _ (a : Adding) (chain material : Bytes) (taken room : Bool) (old : table.
         (held-keys (a .guest || a .anonymous) (derivedKeys kdf (a .dialect) chain (sessionKey material))
         (derived-long (a .dialect) chain (sessionKey material)) after written)
 
-    pub add-done : (new : table.Session) → new ≡ recordWith a after → AddsWith x taken room old n new
+    pub add-done : (new : Session) → new ≡ stored (recordWith a after) → AddsWith x taken room old n new
     add-done new en =
         let q = judge-passed (addTests x taken room) (done 0) (passes (addTests x taken room) n refl number-is z) in
-        record { number = answered; session = en ∙ made ∙ sym (ap (λ (v : Answer). whenDone v (λ k. table.newRecord kdf x) old) q) }
+        record { number = answered; session = en ∙ ap stored made ∙ sym (ap (λ (v : Answer). whenDone v (λ k. stored (table.newRecord kdf x)) old) q) }
 
 -- ---- for the two functions that make number and record
 
@@ -170,28 +172,34 @@ pub later-is : (id : ℕ) (taken room : Bool) (l20 l21 l22 : ℕ) → l22 ≡ co
     → l20 ≡ firstOf (idZero id ∷ idTaken taken ∷ tableFull room ∷ [])
 later-is id taken room l20 l21 l22 e22 e21 e20 = e20 ∙ ap (cond (eqb id 0) 20) (e21 ∙ ap (cond taken 21) e22)
 
-pub record-is : (a : Adding) (keys s p f g f′ g′ : Bytes) → s ≡ bytesAt 0 16 keys → p ≡ bytesAt 16 16 keys → f ≡ bytesAt 32 16 keys
-    → f′ ≡ cond (a .guest || a .anonymous) table.zeroKey f → g ≡ bytesAt 48 16 keys → g′ ≡ cond (a .guest || a .anonymous) table.zeroKey g
-    → _≡_ {A = table.Session} (record {
-      used = true;
+pub record-is : (a : Adding) (keys s p f g f′ g′ : Bytes) (guest anonymous : ℕ) → s ≡ bytesAt 0 16 keys → p ≡ bytesAt 16 16 keys
+    → f ≡ bytesAt 32 16 keys → f′ ≡ cond (a .guest || a .anonymous) table.zeroKey f → g ≡ bytesAt 48 16 keys
+    → g′ ≡ cond (a .guest || a .anonymous) table.zeroKey g → guest ≡ bitOf (a .guest) → anonymous ≡ bitOf (a .anonymous)
+    → _≡_ {A = Session} (record {
       id = a .id;
-      guest = a .guest;
-      anonymous = a .anonymous;
-      keys = record
-          { signing = s; application = p; clientToServer = f′; serverToClient = g′ };
       counter = 0;
-    }) (recordWith a keys)
+      signing = s;
+      application = p;
+      «client_to_server» = f′;
+      «server_to_client» = g′;
+      used = 1;
+      guest = guest;
+      anonymous = anonymous;
+      spare = replicate 5 0;
+    }) (stored (recordWith a keys))
 unfolding recordWith
-record-is a keys s p f g f′ g′ es ep ef ef′ eg eg′ =
+record-is a keys s p f g f′ g′ guest anonymous es ep ef ef′ eg eg′ e e′ =
     let first : f′ ≡ cond (a .guest || a .anonymous) table.zeroKey (bytesAt 32 16 keys) = ef′ ∙ ap (cond (a .guest || a .anonymous) table.zeroKey) ef in
     let second : g′ ≡ cond (a .guest || a .anonymous) table.zeroKey (bytesAt 48 16 keys) = eg′ ∙ ap (cond (a .guest || a .anonymous) table.zeroKey) eg in
     λ j. record {
-      used =
-          true;
       id = a .id;
-      guest = a .guest;
-      anonymous = a .anonymous;
-      keys = record
-          { signing = es j; application = ep j; clientToServer = first j; serverToClient = second j };
       counter = 0;
+      signing = es j;
+      application = ep j;
+      «client_to_server» = first j;
+      «server_to_client» = second j;
+      used = 1;
+      guest = e j;
+      anonymous = e′ j;
+      spare = replicate 5 0;
     }

@@ -9,7 +9,15 @@ use Rattle.protocol.specs.Answer.{answerNumber, whenDone}
 use Rattle.protocol.specs.SessionTable as table
 use Rattle.protocol.specs.Calls.{lines, verdict, addTests}
 use Rattle.protocol.specs.Suite.{kdf}
+use Rattle.connection.specs.declared.Connection.{Connection}
+use Rattle.connection.specs.Reading.{flag}
 use Rattle.session_record.specs.declared.Adding.{Adding}
+use Rattle.session_record.specs.declared.Session.{Session}
+use Rattle.session_record.specs.Reading.{stored}
+
+-- what C asks for, as numbers: of the connection the dialect alone counts
+abbrev pub addingFor : Connection → ℕ → ℕ → ℕ → Adding
+addingFor c id guest anonymous = record { dialect = c .dialect; id = id; guest = flag guest; anonymous = flag anonymous }
 
 -- what adding is given
 abbrev pub addingOf : Adding → Bytes → Bytes → table.Adding
@@ -33,7 +41,7 @@ recordWith a keys =
       counter = 0;
     }
 
--- adding, where old stands at the first free place: the number is n, and new stands there afterwards
-pub record AddsWith (a : table.Adding) (taken room : Bool) (old : table.Session) (n : ℕ) (new : table.Session) : Type 0 where
+-- adding, where old stands at the first free place: the number is n, and new stands there afterwards, byte for byte
+pub record AddsWith (a : table.Adding) (taken room : Bool) (old : Session) (n : ℕ) (new : Session) : Type 0 where
   pub number : n ≡ answerNumber (verdict (lines (addTests a taken room)))
-  pub session : new ≡ whenDone (verdict (lines (addTests a taken room))) (λ k. table.newRecord kdf a) old
+  pub session : new ≡ whenDone (verdict (lines (addTests a taken room))) (λ k. stored (table.newRecord kdf a)) old

@@ -11,6 +11,7 @@ use Rattle.protocol.specs.Transform.{openedTo}
 use Rattle.protocol.specs.Calls.{verdict, sealTests, sealedWith, openTests, plaintext}
 use Rattle.protocol.specs.Suite.{suite}
 use Rattle.transform_header.specs.Reading.{headerIn}
+use Rattle.connection.specs.Reading.{flag}
 use Rattle.session_record.specs.declared.Session as code
 use Rattle.session_record.specs.declared.Changed.{Changed}
 use Rattle.session_record.specs.Reading.{free}
@@ -35,4 +36,4 @@ namedId m = (headerIn m) .sessionId
 
 -- removing the record s
 unfoldable pub removedOf : code.Session → Changed
-removedOf s = record { number = cond (s .used) 0 6; session = free }
+removedOf s = record { number = cond (flag (s .used)) 0 6; session = free }

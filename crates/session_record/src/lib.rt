@@ -4,25 +4,28 @@ mod new;
 
 use answer::Answer;
 use connection::Connection;
-use connection::Role;
 ghost use mathlib.Core.Path.{_≡_};
-ghost use Rattle.protocol.specs.SessionTable.{counterStep, sealingKey, openingKey};
+ghost use mathlib.Core.Bool.{cond};
+ghost use Rattle.protocol.specs.SessionTable.{sealingKey, openingKey};
 ghost use Rattle.answer.specs.Reading.{answerOf};
-ghost use Rattle.connection.specs.Reading.{roleOf, connectionOf};
-ghost use Rattle.session_record.specs.Reading.{free, isWanted, sessionOf};
+ghost use Rattle.connection.specs.Reading.{flag, roleOf, connectionOf};
+ghost use Rattle.session_record.specs.Reading.{free, isWanted, sessionOf, stepped};
 ghost use Rattle.session_record.specs.Contracts.{SealsWith, counterMoves, OpensWith, namedId, removedOf};
-ghost use Rattle.session_record.specs.Adds.{addingOf, AddsWith};
+ghost use Rattle.session_record.specs.Adds.{addingFor, addingOf, AddsWith};
 
+// struct smb3seal_session: any bytes are a record. A flag is a byte, 0 for no and anything else for yes.
+#[repr(C)]
 pub struct Session {
-    pub used: bool,
     pub id: u64,
-    pub guest: bool,
-    pub anonymous: bool,
+    pub counter: u64,
     pub signing: [u8; 16],
     pub application: [u8; 16],
     pub client_to_server: [u8; 16],
     pub server_to_client: [u8; 16],
-    pub counter: u64,
+    pub used: u8,
+    pub guest: u8,
+    pub anonymous: u8,
+    pub spare: [u8; 5],
 }
 
 // What adding takes beside the key material and the chain value.
@@ -44,16 +47,30 @@ pub fn vacant() -> Session
     ensures { λ r. ⌜ r ≡ free ⌝ }
 {
     let none = [0u8; 16];
+    let spare = [0u8; 5];
     Session {
-        used: false,
         id: 0,
-        guest: false,
-        anonymous: false,
+        counter: 0,
         signing: none,
         application: none,
         client_to_server: none,
         server_to_client: none,
-        counter: 0,
+        used: 0,
+        guest: 0,
+        anonymous: 0,
+        spare: spare,
+    }
+}
+
+// What adding takes, by the numbers that C hands over.
+pub fn adding_for(c: Connection, id: u64, guest: u32, anonymous: u32) -> Adding
+    ensures { λ r. ⌜ r ≡ addingFor c id guest anonymous ⌝ }
+{
+    Adding {
+        dialect: c.dialect,
+        id: id,
+        guest: guest != 0,
+        anonymous: anonymous != 0,
     }
 }
 
@@ -61,19 +78,19 @@ pub fn vacant() -> Session
 pub fn wanted(s: Session, used: bool, id: u64) -> bool
     ensures { λ r. ⌜ r ≡ isWanted used id s ⌝ }
 {
-    let there = s.used;
+    let in_use = s.used != 0;
     if used {
-        if there {
+        if in_use {
             return s.id == id;
         }
         return false;
     }
-    !there
+    !in_use
 }
 
-// The counter step: up by that many, and unchanged where it would pass the last.
+// The counter step: up by that many, and unchanged where it would pass the last. No other byte of the record changes.
 pub fn step_record(s: Session, by: u64) -> Session
-    ensures { λ r. ⌜ sessionOf r ≡ counterStep by (sessionOf s) ⌝ }
+    ensures { λ r. ⌜ r ≡ stepped by s ⌝ }
 {
     let n = s.counter;
     if by > connection::last_counter() - n {
@@ -84,24 +101,29 @@ pub fn step_record(s: Session, by: u64) -> Session
     t
 }
 
-// A client seals with the first cipher key, a server with the second.
-fn sealing_key(s: Session, role: Role) -> [u8; 16]
-    ensures { λ r. ⌜ r ≡ sealingKey (roleOf role) (sessionOf s .keys) ⌝ }
+// The key of what a client sends, or of what a server sends.
+fn key_from(s: Session, client: bool) -> [u8; 16]
+    ensures { λ r. ⌜ r ≡ cond client (sessionOf s .keys .clientToServer) (sessionOf s .keys .serverToClient) ⌝ }
 {
-    match role {
-        Role::Client => s.client_to_server,
-        Role::Server => s.server_to_client,
+    if client {
+        s.client_to_server
+    } else {
+        s.server_to_client
     }
 }
 
+// A client seals with the first cipher key, a server with the second.
+fn sealing_key(s: Session, role: u8) -> [u8; 16]
+    ensures { λ r. ⌜ r ≡ sealingKey (roleOf role) (sessionOf s .keys) ⌝ }
+{
+    key_from(s, role == connection::CLIENT)
+}
+
 // And opens with the other.
-fn opening_key(s: Session, role: Role) -> [u8; 16]
+fn opening_key(s: Session, role: u8) -> [u8; 16]
     ensures { λ r. ⌜ r ≡ openingKey (roleOf role) (sessionOf s .keys) ⌝ }
 {
-    match role {
-        Role::Client => s.server_to_client,
-        Role::Server => s.client_to_server,
-    }
+    key_from(s, role != connection::CLIENT)
 }
 
 // The session that a message names, 0 where it is too short for a header.
@@ -163,9 +185,9 @@ pub fn add_record(
     material: &[u8],
     chain: &[u8],
 ) -> Changed
-    ensures { λ r. ⌜ AddsWith (addingOf a (now (chain .entry)) (now (material .entry))) (there .used) room (sessionOf old) (r .number) (sessionOf (r .session)) ⌝ }
+    ensures { λ r. ⌜ AddsWith (addingOf a (now (chain .entry)) (now (material .entry))) (flag (there .used)) room old (r .number) (r .session) ⌝ }
 {
-    let taken = there.used;
+    let taken = there.used != 0;
     let mut place = [0u8; 64];
     let first = keys::derive(a.dialect, material, chain, &mut place);
     let n = lines::place_number(first, a.id, taken, room);
@@ -186,7 +208,7 @@ pub fn add_record(
 pub fn remove_record(s: Session) -> Changed
     ensures { λ r. ⌜ r ≡ removedOf s ⌝ }
 {
-    let there = s.used;
+    let there = s.used != 0;
     let none = vacant();
     if there {
         return Changed {

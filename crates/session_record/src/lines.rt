@@ -16,9 +16,9 @@ ghost use Rattle.session_record.specs.Reading.{sessionOf};
 pub fn record_number(s: Session, c: Connection) -> u32
     ensures { λ r. ⌜ r ≡ firstOf (recordTests (connectionOf c) (sessionOf s)) ⌝ }
 {
-    let line8 = refuse(8, s.guest | s.anonymous, 0);
-    let line7 = refuse(7, c.constrained, line8);
-    refuse(6, !s.used, line7)
+    let line8 = refuse(8, (s.guest != 0) | (s.anonymous != 0), 0);
+    let line7 = refuse(7, c.constrained != 0, line8);
+    refuse(6, !(s.used != 0), line7)
 }
 
 // 20, 21, 22, behind the number of derivation.

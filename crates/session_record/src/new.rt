@@ -4,7 +4,7 @@ use crate::Session;
 ghost use mathlib.Core.Path.{_≡_};
 ghost use mathlib.Core.Bool.{cond};
 ghost use Rattle.protocol.specs.SessionTable.{zeroKey};
-ghost use Rattle.session_record.specs.Reading.{sessionOf};
+ghost use Rattle.session_record.specs.Reading.{bitOf, stored};
 ghost use Rattle.session_record.specs.Adds.{recordWith};
 
 // A guest or anonymous record holds zero in the place of a cipher key.
@@ -18,24 +18,33 @@ fn held(bare: bool, key: [u8; 16]) -> [u8; 16]
     key
 }
 
+// A flag as the library stores it.
+fn bit(on: bool) -> u8
+    ensures { λ r. ⌜ r ≡ bitOf on ⌝ }
+{
+    if on { 1 } else { 0 }
+}
+
 // The new record, out of the four keys in their order.
 pub fn fresh(a: Adding, keys: [u8; 64]) -> Session
-    ensures { λ r. ⌜ sessionOf r ≡ recordWith a keys ⌝ }
+    ensures { λ r. ⌜ r ≡ stored (recordWith a keys) ⌝ }
 {
+    let spare = [0u8; 5];
     let bare = a.guest | a.anonymous;
     let signing = arrays::bytes_16(&keys, 0);
     let application = arrays::bytes_16(&keys, 16);
     let first = held(bare, arrays::bytes_16(&keys, 32));
     let second = held(bare, arrays::bytes_16(&keys, 48));
     Session {
-        used: true,
         id: a.id,
-        guest: a.guest,
-        anonymous: a.anonymous,
+        counter: 0,
         signing: signing,
         application: application,
         client_to_server: first,
         server_to_client: second,
-        counter: 0,
+        used: 1,
+        guest: bit(a.guest),
+        anonymous: bit(a.anonymous),
+        spare: spare,
     }
 }

@@ -1,7 +1,7 @@
--- The steps that the walks over the table share, each as one rule: a `&mut [T]` lent as a `&[T]` and back, and a call of `find`, of `at`, of `lookup`, of `put_at`, of `step`.
+-- The steps that the walks over a table share, each as one rule: a `&mut [T]` lent as a `&[T]` and back, and a call of `find`, of `at`, of `put_at`, of `step`.
 --     lend, back       [the `&mut`; its token]  to  [the token of a new lifetime ν; the `&`; `LentOut`], and back
 --     calls-find       [the `&`'s token; the `&`] before and after the call. The operands are read with what `find` asks in the token's place
---     calls-get        the same of `at`.        calls-lookup     the same of `lookup`
+--     calls-get        the same of `at`.
 --     calls-put        [the `&mut`'s token; the `&mut`] before; [the token; what says the last list] after. The operands are read with what `put_at` asks in the place of both
 --     calls-step       the same of `step`
 -- Assumes `Given`, and of each callee that it meets its contract.
@@ -39,10 +39,8 @@ use denote.Triple.Entry.{Res, alive}
 use denote.Triple.Spec.{tripleOf}
 use denote.Triple.Statement.{Contract, Triple}
 use Rattle.session_record.specs.declared.Session.{Session}
-use Rattle.session_record.specs.Reading.{free, isWanted, sessionOf}
-use Rattle.protocol.specs.SessionTable.{recordOf, changeRecord, counterStep}
+use Rattle.session_record.specs.Reading.{free, isWanted, stepped}
 use Rattle.session_table.specs.Place.{first}
-use Rattle.session_table.specs.Reading.{tableOf}
 use Rattle.session_record.proofs.Session as T
 use Rattle.session_record.proofs.Session.Laws as T′
 use Rattle.session_table.proofs.Walk.{R, mach, record-owned}
@@ -52,8 +50,6 @@ use Rattle.session_table.proofs.find as find
 use Rattle.session_table.proofs.find.Symbol.{name as #session-table·find}
 use Rattle.session_table.proofs.at as at
 use Rattle.session_table.proofs.at.Symbol.{name as #session-table·at}
-use Rattle.session_table.proofs.lookup as lookup
-use Rattle.session_table.proofs.lookup.Symbol.{name as #session-table·lookup}
 use Rattle.session_table.proofs.put_at as put-at
 use Rattle.session_table.proofs.put_at.Symbol.{name as #session-table·put-at}
 use Rattle.session_table.proofs.step as stepping
@@ -86,9 +82,6 @@ module _ {M : Type 1} (𝓤 : URA M) (H : Heap 𝓤) (A : Atoms 𝓤) (mem : Mem
   abbrev pub Gets : Contract 𝓤
   Gets = tripleOf 𝓤 H A at.signature (at.spec 𝓤 H A mem run)
 
-  abbrev pub Looks : Contract 𝓤
-  Looks = tripleOf 𝓤 H A lookup.signature (lookup.spec 𝓤 H A mem run)
-
   abbrev pub Puts : Contract 𝓤
   Puts = tripleOf 𝓤 H A put-at.signature (put-at.spec 𝓤 H A mem run)
 
@@ -108,14 +101,11 @@ module _ {M : Type 1} (𝓤 : URA M) (H : Heap 𝓤) (A : Atoms 𝓤) (mem : Mem
     abbrev pub to-at : ℕ → Gets .Ghost
     to-at i = (((κ, tt), (q, tt), tt, (y, (i, tt)), (sl ∷ [], (vint w64 i ∷ [], tt))), tt)
 
-    abbrev pub to-lookup : ℕ → Looks .Ghost
-    to-lookup id = (((κ, tt), (q, tt), tt, (y, (id, tt)), (sl ∷ [], (vint w64 id ∷ [], tt))), tt)
-
-    abbrev pub to-step : ℕ → ℕ → Moves .Ghost
-    to-step id by = (((κ, tt), (q, tt), tt, (y, (id, (by, tt))), (sl ∷ [], (vint w64 id ∷ [], (vint w64 by ∷ [], tt)))), tt)
-
     abbrev pub to-put : ℕ → Session → Puts .Ghost
     to-put i s = (((κ, tt), (q, tt), tt, (y, (i, (s, tt))), (sl ∷ [], (vint w64 i ∷ [], (mach s ∷ [], tt)))), tt)
+
+    abbrev pub to-step : ℕ → ℕ → Moves .Ghost
+    to-step i by = (((κ, tt), (q, tt), tt, (y, (i, (by, tt))), (sl ∷ [], (vint w64 i ∷ [], (vint w64 by ∷ [], tt)))), tt)
 
     module _ (W : Given 𝓤 H A) where
       asks-find : (used : Bool) (id : ℕ) → id < 2 ^ 64 → ent 𝓤 (sep 𝓤 (A .lft κ q) (sem 𝓤 H A (ShrSlice (named 0) κ R .own y (sl ∷ [])))) (Finds .pre (to-find used id))
@@ -128,20 +118,15 @@ module _ {M : Type 1} (𝓤 : URA M) (H : Heap 𝓤) (A : Atoms 𝓤) (mem : Mem
           qed W (‵ (flft κ q) ∷ ‵ (ShrSlice (named 0) κ R .own y (sl ∷ [])) ∷ []) ∵ nothing ! $ move ! (1 ∷ 0 ∷ []) $ join ! $
           nothing ! $ owned ! usize (Is usize) (uint-makes 𝓤 H A W w64) i _ (refl, fits) $ fjoin ! $ move ! (2 ∷ 0 ∷ []) $ fjoin ! $ move ! (1 ∷ 0 ∷ []) $ join ! $ frame ! $ done !
 
-      asks-lookup : (id : ℕ) → id < 2 ^ 64 → ent 𝓤 (sep 𝓤 (A .lft κ q) (sem 𝓤 H A (ShrSlice (named 0) κ R .own y (sl ∷ [])))) (Looks .pre (to-lookup id))
-      asks-lookup id fits =
-          qed W (‵ (flft κ q) ∷ ‵ (ShrSlice (named 0) κ R .own y (sl ∷ [])) ∷ []) ∵ nothing ! $ move ! (1 ∷ 0 ∷ []) $ join ! $
-          nothing ! $ owned ! u64 (Is u64) (uint-makes 𝓤 H A W w64) id _ (refl, fits) $ fjoin ! $ move ! (2 ∷ 0 ∷ []) $ fjoin ! $ move ! (1 ∷ 0 ∷ []) $ join ! $ frame ! $ done !
-
-      asks-step : (id by : ℕ) → id < 2 ^ 64 → by < 2 ^ 64 → ent 𝓤 (sep 𝓤 (A .lft κ q) (sem 𝓤 H A (MutSlice (named 0) κ R .own y (sl ∷ [])))) (Moves .pre (to-step id by))
-      asks-step id by fits fits′ =
-          qed W (‵ (flft κ q) ∷ ‵ (MutSlice (named 0) κ R .own y (sl ∷ [])) ∷ []) ∵ nothing ! $ move ! (1 ∷ 0 ∷ []) $ join ! $
-          nothing ! $ owned ! u64 (Is u64) (uint-makes 𝓤 H A W w64) by _ (refl, fits′) $ fjoin ! $ owned ! u64 (Is u64) (uint-makes 𝓤 H A W w64) id _ (refl, fits) $ fjoin ! $ move ! (2 ∷ 0 ∷ []) $ fjoin ! $ move ! (1 ∷ 0 ∷ []) $ join ! $ frame ! $ done !
-
       asks-put : (i : ℕ) (s : Session) → i < 2 ^ 64 → Is R s (mach s ∷ []) → ent 𝓤 (sep 𝓤 (A .lft κ q) (sem 𝓤 H A (MutSlice (named 0) κ R .own y (sl ∷ [])))) (Puts .pre (to-put i s))
       asks-put i s fits is =
           qed W (‵ (flft κ q) ∷ ‵ (MutSlice (named 0) κ R .own y (sl ∷ [])) ∷ []) ∵ nothing ! $ move ! (1 ∷ 0 ∷ []) $ join ! $
           nothing ! $ record-owned ! s _ is $ fjoin ! $ owned ! usize (Is usize) (uint-makes 𝓤 H A W w64) i _ (refl, fits) $ fjoin ! $ move ! (2 ∷ 0 ∷ []) $ fjoin ! $ move ! (1 ∷ 0 ∷ []) $ join ! $ frame ! $ done !
+
+      asks-step : (i by : ℕ) → i < 2 ^ 64 → by < 2 ^ 64 → ent 𝓤 (sep 𝓤 (A .lft κ q) (sem 𝓤 H A (MutSlice (named 0) κ R .own y (sl ∷ [])))) (Moves .pre (to-step i by))
+      asks-step i by fits fits′ =
+          qed W (‵ (flft κ q) ∷ ‵ (MutSlice (named 0) κ R .own y (sl ∷ [])) ∷ []) ∵ nothing ! $ move ! (1 ∷ 0 ∷ []) $ join ! $
+          nothing ! $ owned ! u64 (Is u64) (uint-makes 𝓤 H A W w64) by _ (refl, fits′) $ fjoin ! $ owned ! usize (Is usize) (uint-makes 𝓤 H A W w64) i _ (refl, fits) $ fjoin ! $ move ! (2 ∷ 0 ∷ []) $ fjoin ! $ move ! (1 ∷ 0 ∷ []) $ join ! $ frame ! $ done !
 
 -- what a `&[Session]` owns, and a `&mut [Session]`
 abbrev pub Shr : Lft → ℕ → ℕ → GName → List Session → Fml
@@ -195,19 +180,12 @@ module _ {M : Type 1} {𝓤 : URA M} {H : Heap 𝓤} {A : Atoms 𝓤} {K : Type 
       -- [the last list; true; the token; …]
       move t (2 ∷ 0 ∷ 1 ∷ []) $ move t (2 ∷ []) $ drop t $ k (ws .0) e l))
 
-  pub calls-lookup : K → FmC 𝓤 H (W .laws) C → Triple 𝓤 (C #session-table·lookup) (Looks 𝓤 H A mem run) → (id : ℕ) → id < 2 ^ 64
-      → Opds K W (raw (Looks 𝓤 H A mem run .pre (to-lookup 𝓤 H A mem run κ q b o γ ys id)) ∷ ‵ (Shr κ b o γ ys) ∷ Γ) E xs (sliceVal (b, o) (length ys) ∷ vint w64 id ∷ [])
-      → ((s : Session) → sessionOf s ≡ recordOf id (tableOf ys) → Is R s (mach s ∷ []) → Seq K W (‵ (flft κ q) ∷ ‵ (Shr κ b o γ ys) ∷ Γ) (lands C Λ E d (mach s) rest post))
-      → Seq K W (‵ (flft κ q) ∷ ‵ (Shr κ b o γ ys) ∷ Γ) (runs C Λ E (seq (call #session-table·lookup xs d) rest) post)
-  calls-lookup t fm known id fits os k =
-      calls-reading lookup.ended (lookup.clauses 𝓤 H A mem run) κ q b o γ ys (to-lookup 𝓤 H A mem run κ q b o γ ys id) t fm known (asks-lookup 𝓤 H A mem run κ q b o γ ys W id fits) (id⊢ 𝓤 _) (λ s. sessionOf s ≡ recordOf id (tableOf ys)) (λ r ws. id⊢ 𝓤 _) mach (LL.tells T.the-type T′.the-laws) os k
-
-  pub calls-step : K → FmC 𝓤 H (W .laws) C → Triple 𝓤 (C #session-table·step) (Moves 𝓤 H A mem run) → (id by : ℕ) → id < 2 ^ 64 → by < 2 ^ 64
-      → Opds K W (raw (Moves 𝓤 H A mem run .pre (to-step 𝓤 H A mem run κ q b o γ ys id by)) ∷ Γ) E xs (sliceVal (b, o) (length ys) ∷ vint w64 id ∷ vint w64 by ∷ [])
-      → ((zs : List Session) → tableOf zs ≡ changeRecord (counterStep by) id (tableOf ys) → length zs ≡ length ys → Seq K W (‵ (flft κ q) ∷ ‵ (finally R γ zs) ∷ Γ) (lands C Λ E d vunit rest post))
+  pub calls-step : K → FmC 𝓤 H (W .laws) C → Triple 𝓤 (C #session-table·step) (Moves 𝓤 H A mem run) → (i by : ℕ) → i < 2 ^ 64 → by < 2 ^ 64
+      → Opds K W (raw (Moves 𝓤 H A mem run .pre (to-step 𝓤 H A mem run κ q b o γ ys i by)) ∷ Γ) E xs (sliceVal (b, o) (length ys) ∷ vint w64 i ∷ vint w64 by ∷ [])
+      → ((zs : List Session) → zs ≡ set ys i (stepped by (getD ys i free)) → length zs ≡ length ys → Seq K W (‵ (flft κ q) ∷ ‵ (finally R γ zs) ∷ Γ) (lands C Λ E d vunit rest post))
       → Seq K W (‵ (flft κ q) ∷ ‵ (Mut κ b o γ ys) ∷ Γ) (runs C Λ E (seq (call #session-table·step xs d) rest) post)
-  calls-step t fm known id by fits fits′ os k =
-      use2 W (raw (Moves 𝓤 H A mem run .pre (to-step 𝓤 H A mem run κ q b o γ ys id by))) (asks-step 𝓤 H A mem run κ q b o γ ys W id by fits fits′) $
-      calls-said stepping.ended (stepping.clauses 𝓤 H A mem run) t fm known (to-step 𝓤 H A mem run κ q b o γ ys id by) (λ r ws. tableOf (ws .0) ≡ changeRecord (counterStep by) id (tableOf ys)) (λ r ws. id⊢ 𝓤 _) (λ _. vunit) (λ r vs p. p) os (λ r ws e is-v.
+  calls-step t fm known i by fits fits′ os k =
+      use2 W (raw (Moves 𝓤 H A mem run .pre (to-step 𝓤 H A mem run κ q b o γ ys i by))) (asks-step 𝓤 H A mem run κ q b o γ ys W i by fits fits′) $
+      calls-said stepping.ended (stepping.clauses 𝓤 H A mem run) t fm known (to-step 𝓤 H A mem run κ q b o γ ys i by) (λ r ws. ws .0 ≡ set ys i (stepped by (getD ys i free))) (λ r ws. id⊢ 𝓤 _) (λ _. vunit) (λ r vs p. p) os (λ r ws e is-v.
       use1 W (‵ (flft κ q) ⊛ ‵ ftrue) (id⊢ 𝓤 _) $ split t $ move t (1 ∷ []) $ drop t $ move t (1 ∷ []) $ fsplit t $ fsplit t $ move t (1 ∷ []) $ feqL t (λ l.
       move t (2 ∷ 0 ∷ 1 ∷ []) $ move t (2 ∷ []) $ drop t $ k (ws .0) e l))

@@ -1,4 +1,4 @@
--- A search, turn by turn, and the two searches by name.
+-- A search, turn by turn.
 -- Assumes nothing.
 use mathlib.Core.Path.{_≡_, _∙_, ap}
 use mathlib.Core.Bool.{Bool, true, false, cond}
@@ -9,15 +9,8 @@ use native.Mathlib.Omega.{arith}
 use lib.ListN.{length, drop, getD}
 use lib.Seq.{drop-cons, drop-length}
 use Rattle.session_record.specs.declared.Session.{Session}
-use Rattle.session_record.specs.Reading.{free, isWanted}
+use Rattle.session_record.specs.Reading.{free}
 use Rattle.session_table.specs.Place.{first}
-
--- the place of the session of an id, and of the first free record; or how many records there are
-abbrev pub placeOf : ℕ → List Session → ℕ
-placeOf id ys = first (isWanted true id) ys
-
-abbrev pub freePlace : List Session → ℕ
-freePlace ys = first (isWanted false 0) ys
 
 -- of a search that has come to i
 module _ (p : Session → Bool) (ys : List Session) (i : ℕ) (far : i + first p (drop i ys) ≡ first p ys) where

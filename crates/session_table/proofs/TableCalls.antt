@@ -1,93 +1,153 @@
--- What each function of the table says, from what its callees say: the mathematics of the walks.
+-- What each call with the table says, from what its parts say: the mathematics of the walks. `Exactly` is shown first, every byte of the
+-- table; the table of the rules follows from it (leaves-table).
 -- Assumes nothing.
 use mathlib.Core.Path.{_≡_, refl, sym, ap, subst, _∙_}
-use mathlib.Core.Bool.{Bool, true, false, cond, not, _&&_, true≢false}
+use mathlib.Core.Bool.{Bool, true, false, cond, not, _&&_}
 use mathlib.Core.List.{List, [], _∷_, _++_}
-use Prim.Native.Nat.{ℕ, _<_, _^_}
+use Prim.Native.Nat.{ℕ, suc, _<_, _^_}
 use native.Mathlib.Omega.{arith}
-use borrow.Author.Tests.{eqb-true, eqb-false, leb-false}
+use borrow.Author.Tests.{leb-false}
 use lib.Dec.{eqb, leb, ltb}
 use lib.ListN.{length, getD, set}
 use Rattle.protocol.specs.Bytes.{Bytes}
-use Rattle.protocol.specs.Answer.{Answer, done, refused, answerNumber, whenDone, Test, refuse_when_, firstOf, judgeAfter}
+use Rattle.protocol.specs.Answer.{Answer, done, refused, answerNumber, whenDone, Test, refuse_when_, judgeAfter}
 use Rattle.protocol.specs.Connection.{Connection, encrypts, lastCounter}
 use Rattle.protocol.specs.TransformHeader.{inner, sessionIdOf, TransformHeader}
 use Rattle.protocol.specs.Compound.{walk}
 use Rattle.protocol.specs.Refusals.{otherSession, counterUsedUp}
 use Rattle.protocol.specs.SessionTable as protocol
 use Rattle.protocol.specs.Transform.{openedTo}
-use Rattle.protocol.specs.Calls.{lines, adding, removing, sealing, opening, onlyTable, messageAndTable, messageTests, recordTests, addTests, sealTests, sealedWith, openTests, plaintext, verdict, tests, effect, answer}
+use Rattle.protocol.specs.Calls.{Call, derivation, folding, sealingUnder, openingUnder, adding, removing, stepping, sealing, opening, Lent, lines}
+use Rattle.protocol.specs.Calls.{onlyTable, messageAndTable, messageTests, recordTests, addTests, sealTests, sealedWith, openTests, plaintext, verdict}
+use Rattle.protocol.specs.Calls.{tests, effect, answer, left}
 use Rattle.protocol.specs.Contract.{Makes, Returns}
 use Rattle.protocol.specs.Suite.{suite, kdf}
 use Rattle.protocol.proofs.AnswerLaws.{when-part, when-two}
-use Rattle.protocol.proofs.CallLaws.{makes-when, lines-return, lines-return-done}
+use Rattle.protocol.proofs.CallLaws.{makes-when, lines-refused, lines-done, number-lines}
 use Rattle.protocol.proofs.Judging.{judge-done}
 use Rattle.transform_header.proofs.HeaderIn.{header-there}
+use Rattle.connection.specs.Reading.{flag}
 use Rattle.session_record.specs.declared.Session.{Session}
 use Rattle.session_record.specs.declared.Adding.{Adding}
 use Rattle.session_record.specs.declared.Changed.{Changed}
-use Rattle.session_record.specs.Reading.{free, sessionOf}
+use Rattle.session_record.specs.Reading.{free, isWanted, sessionOf, bitOf, stored, stepped}
 use Rattle.session_record.specs.Adds.{addingOf, AddsWith}
 use Rattle.session_record.specs.Contracts.{SealsWith, counterMoves, OpensWith, namedId, removedOf}
+use Rattle.session_table.specs.Place.{first, placeOf, freePlace}
 use Rattle.session_table.specs.Reading.{tableOf}
-use Rattle.session_table.proofs.PlaceLaws.{placeOf, freePlace}
+use Rattle.session_table.specs.Exactly.{countedUp, changed, Exactly}
 use Rattle.session_table.proofs.TableLink.{reads, changes, fills, has-free, keeps}
-use Rattle.session_table.proofs.StepLaws.{unchanged, change-alike, step-none, step-one}
+use Rattle.session_table.proofs.StepLaws.{step-none, step-one, steps-alike}
+
+-- ---- the table of the rules, from the table of the code
+
+stored-read : (s : protocol.Session) → sessionOf (stored s) ≡ s
+stored-read s =
+    λ j. record {
+      used = bit (s .used) j;
+      id = s .id;
+      guest = bit (s .guest) j;
+      anonymous = bit (s .anonymous) j;
+      keys = s .keys;
+      counter = s .counter;
+    }
+  where
+    bit : (b : Bool) → flag (bitOf b) ≡ b
+    bit true = refl
+    bit false = refl
+
+reads-changed : (c : Call) (m : Bytes) (t : List Session) → tableOf (changed c t) ≡ (effect suite c (messageAndTable m (tableOf t))) .table
+unfolding changed effect
+reads-changed (adding a) m t =
+    sym (fills (stored (protocol.newRecord kdf a)) t)
+    ∙ ap (λ (s : protocol.Session). protocol.fillFree s (tableOf t)) (stored-read (protocol.newRecord kdf a))
+reads-changed (removing id) m t = sym (changes (λ s. protocol.freeRecord) id t free refl)
+reads-changed (stepping id by) m t = sym (changes (protocol.counterStep by) id t _ (steps-alike by _))
+reads-changed (sealing c id) m t = sym (changes protocol.countUp id t _ refl)
+reads-changed (opening c) m t = refl
+reads-changed (derivation dialect chain material) m t = refl
+reads-changed (folding kind v) m t = refl
+reads-changed (sealingUnder c key id) m t = refl
+reads-changed (openingUnder c key id) m t = refl
+
+leaves-table : (c : Call) (m : Bytes) (t t′ : List Session) → Exactly c (messageAndTable m (tableOf t)) t t′
+    → tableOf t′ ≡ whenDone (answer suite c (messageAndTable m (tableOf t))) (λ n. (effect suite c (messageAndTable m (tableOf t))) .table) (tableOf t)
+leaves-table c m t t′ e =
+    let a = answer suite c (messageAndTable m (tableOf t)) in
+    ap tableOf e ∙ when-part tableOf a (changed c t) t ∙ ap (λ (x : List protocol.Session). whenDone a (λ n. x) (tableOf t)) (reads-changed c m t)
+
+-- a record that stands there only where the call is done, put at its place
+put : (v : Answer) (ys zs : List Session) (i : ℕ) (new : Session) → zs ≡ set ys i (whenDone v (λ n. new) (getD ys i free))
+    → zs ≡ whenDone v (λ n. set ys i new) ys
+put v ys zs i new e =
+    e ∙ when-part (set ys i) v new (getD ys i free) ∙ ap (λ (x : List Session). whenDone v (λ n. set ys i new) x) (keeps ys i)
 
 -- what lookup took
 pub taken : (ys : List Session) (id i : ℕ) (s : Session) → i ≡ placeOf id ys → s ≡ getD ys i free → sessionOf s ≡ protocol.recordOf id (tableOf ys)
 taken ys id i s e e′ = ap sessionOf (e′ ∙ ap (λ (k : ℕ). getD ys k free) e) ∙ sym (reads id ys)
 
--- the counter step
-pub stepped-says : (ys zs : List Session) (by id i : ℕ) (s new : Session) → i ≡ placeOf id ys → s ≡ getD ys i free → sessionOf new ≡ protocol.counterStep by (sessionOf s) → zs ≡ set ys i new → tableOf zs ≡ protocol.changeRecord (protocol.counterStep by) id (tableOf ys)
-stepped-says ys zs by id i s new e e′ en ez =
-    ap tableOf (ez ∙ ap (λ (k : ℕ). set ys k new) e)
-    ∙ sym (changes (protocol.counterStep by) id ys new (en ∙ ap (λ (x : Session). protocol.counterStep by (sessionOf x)) (e′ ∙ ap (λ (k : ℕ). getD ys k free) e)))
+-- ---- removing
 
--- removing: a session that is not there leaves the table as it was
-absent : (f : protocol.Session → protocol.Session) (id : ℕ) (t : List protocol.Session) → (protocol.recordOf id t) .used ≡ false → protocol.changeRecord f id t ≡ t
-absent f id [] u = refl
-absent f id (s ∷ t) u = go (s .used) (eqb (s .id) id) refl u (absent f id t)
+-- a session that is not there: nothing is put
+absent : (id : ℕ) (ys : List Session) (new : Session) → flag ((getD ys (placeOf id ys) free) .used) ≡ false → set ys (placeOf id ys) new ≡ ys
+unfolding first
+absent id [] new u = refl
+absent id (x ∷ xs) new u = go (isWanted true id x) refl u (absent id xs new)
   where
-    go : (b d : Bool) → s .used ≡ b → (cond (b && d) s (protocol.recordOf id t)) .used ≡ false
-        → ((protocol.recordOf id t) .used ≡ false → protocol.changeRecord f id t ≡ t) → cond (b && d) (f s ∷ t) (s ∷ protocol.changeRecord f id t) ≡ s ∷ t
-    go true true e u below = absurd (true≢false (sym e ∙ u))
-    go true false e u below = ap (λ (r : List protocol.Session). s ∷ r) (below u)
-    go false d e u below = ap (λ (r : List protocol.Session). s ∷ r) (below u)
+    go : (b : Bool) → isWanted true id x ≡ b → flag ((getD (x ∷ xs) (cond b 0 (suc (placeOf id xs))) free) .used) ≡ false
+        → (flag ((getD xs (placeOf id xs) free) .used) ≡ false → set xs (placeOf id xs) new ≡ xs)
+        → set (x ∷ xs) (cond b 0 (suc (placeOf id xs))) new ≡ x ∷ xs
+    go true e u below = absurd (used-false (flag (x .used)) (eqb (x .id) id) u e)
+      where
+        used-false : (p q : Bool) → p ≡ false → (p && q) ≡ true → ⊥
+        used-false true q z e = absurd (let z′ : _≡_ {A = ℕ} 0 1 = cc in omega arith)
+        used-false false q z e = absurd (let z′ : _≡_ {A = ℕ} 0 1 = cc in omega arith)
+    go false e u below = ap (λ (r : List Session). x ∷ r) (below u)
 
-removes : (id : ℕ) (t t′ : List protocol.Session) (n : ℕ) → n ≡ cond ((protocol.recordOf id t) .used) 0 6 → t′ ≡ protocol.removeRecord id t
-    → Returns (removing id) (onlyTable t) n (onlyTable t′)
-unfolding tests effect
-removes id t t′ n en et = go ((protocol.recordOf id t) .used) refl
-  where
-    lines : List Test
-    lines = otherSession ((protocol.recordOf id t) .used) ∷ []
+module _ (ys zs : List Session) (id i : ℕ) (s : Session) (r : Changed) where
+  abbrev is-there : Bool
+  is-there = (protocol.recordOf id (tableOf ys)) .used
 
-    go : (b : Bool) → (protocol.recordOf id t) .used ≡ b → Returns (removing id) (onlyTable t) n (onlyTable t′)
-    go true u =
-        let zero : n ≡ 0 = en ∙ rw u in
-        lines-return-done (removing id) (onlyTable t) lines 0 n refl (zero ∙ rw u) refl zero (onlyTable t′) (rw et)
-    go false u =
-        let six : n ≡ 6 = en ∙ rw u in
-        let stays : t′ ≡ t = et ∙ absent (λ s. protocol.freeRecord) id t u in
-        rw stays (lines-return (removing id) (onlyTable t) lines 0 n refl (six ∙ rw u) (λ z. absurd (omega arith)))
+  abbrev line6 : List Test
+  line6 = otherSession is-there ∷ []
 
-pub removed-says : (ys zs : List Session) (id i : ℕ) (s : Session) (t : Changed) → i ≡ placeOf id ys → s ≡ getD ys i free → t ≡ removedOf s
-    → zs ≡ set ys i (t .session) → Returns (removing id) (onlyTable (tableOf ys)) (t .number) (onlyTable (tableOf zs))
-unfolding removedOf
-removed-says ys zs id i s t e e′ et ez =
-    removes id (tableOf ys) (tableOf zs) (t .number)
-    (ap (λ (z : Changed). z .number) et ∙ ap (λ (x : protocol.Session). cond (x .used) 0 6) (taken ys id i s e e′))
-    (ap tableOf (ez ∙ (λ j. set ys (e j) (et j .session))) ∙ sym (changes (λ x. protocol.freeRecord) id ys free refl))
+  pub removed-says : i ≡ placeOf id ys → s ≡ getD ys i free → r ≡ removedOf s → zs ≡ set ys i (r .session)
+      → Returns (removing id) (onlyTable (tableOf ys)) (r .number) (onlyTable (tableOf zs)) × Exactly (removing id) (onlyTable (tableOf ys)) ys zs
+  unfolding tests effect changed removedOf
+  removed-says e e′ er ez = (record { number = number; leaves = leaves }, exactly)
+    where
+      there : flag (s .used) ≡ is-there
+      there = ap (λ (x : protocol.Session). x .used) (taken ys id i s e e′)
 
--- adding
-filled : (v : Answer) (made : protocol.Session) (ys : List Session) (new : Session)
-    → sessionOf new ≡ whenDone v (λ k. made) (sessionOf (getD ys (freePlace ys) free))
-    → tableOf (set ys (freePlace ys) new) ≡ whenDone v (λ k. protocol.fillFree made (tableOf ys)) (tableOf ys)
-filled (done n) made ys new e = sym (fills new ys) ∙ ap (λ (s : protocol.Session). protocol.fillFree s (tableOf ys)) e
-filled (refused n) made ys new e = keeps ys (freePlace ys) new e
+      lined : cond is-there 0 6 ≡ answerNumber (verdict (lines line6))
+      lined = go is-there
+        where
+          go : (b : Bool) → cond b 0 6 ≡ answerNumber (verdict (lines (otherSession b ∷ [])))
+          go true = refl
+          go false = refl
 
-module _ (ys zs : List Session) (x : Adding) (material chain : Bytes) (i f : ℕ) (there old : Session) (t : Changed) where
+      number : r .number ≡ answerNumber (verdict (lines line6))
+      number = ap (λ (x : Changed). x .number) er ∙ ap (λ (b : Bool). cond b 0 6) there ∙ lined
+
+      placed : zs ≡ set ys (placeOf id ys) free
+      placed = ez ∙ (λ j. set ys (e j) (er j .session))
+
+      exactly : Exactly (removing id) (onlyTable (tableOf ys)) ys zs
+      exactly = go is-there refl
+        where
+          go : (b : Bool) → is-there ≡ b → zs ≡ whenDone (verdict (lines (otherSession b ∷ []))) (λ k. set ys (placeOf id ys) free) ys
+          go true u = placed
+          go false u =
+              placed ∙ absent id ys free (sym (ap (λ (x : Session). flag (x .used)) (e′ ∙ ap (λ (k : ℕ). getD ys k free) e)) ∙ there ∙ u)
+
+      leaves : onlyTable (tableOf zs) ≡ left suite (removing id) (onlyTable (tableOf ys))
+      leaves =
+          ap onlyTable (leaves-table (removing id) [] ys zs exactly)
+          ∙ when-part onlyTable (verdict (lines line6)) (protocol.removeRecord id (tableOf ys)) (tableOf ys)
+
+-- ---- adding
+
+module _ (ys zs : List Session) (x : Adding) (material chain : Bytes) (i f : ℕ) (there old : Session) (r : Changed) where
   abbrev asked : protocol.Adding
   asked = addingOf x chain material
 
@@ -95,18 +155,12 @@ module _ (ys zs : List Session) (x : Adding) (material chain : Bytes) (i f : ℕ
   added taken room = verdict (lines (addTests asked taken room))
 
   pub added-says : i ≡ placeOf (x .id) ys → there ≡ getD ys i free → f ≡ freePlace ys → old ≡ getD ys f free
-      → AddsWith asked (there .used) (ltb f (length ys)) (sessionOf old) (t .number) (sessionOf (t .session)) → zs ≡ set ys f (t .session)
-      → Returns (adding asked) (onlyTable (tableOf ys)) (t .number) (onlyTable (tableOf zs))
-  unfolding tests effect
-  added-says e e′ ef eo o ez =
-      record {
-        number = o .number ∙ ap answerNumber same;
-        leaves =
-            ap onlyTable (ap tableOf (ez ∙ ap (λ (k : ℕ). set ys k (t .session)) ef) ∙ filled answered (protocol.newRecord kdf asked) ys (t .session) stored)
-            ∙ when-part onlyTable answered (protocol.fillFree (protocol.newRecord kdf asked) (tableOf ys)) (tableOf ys);
-      }
+      → AddsWith asked (flag (there .used)) (ltb f (length ys)) old (r .number) (r .session) → zs ≡ set ys f (r .session)
+      → Returns (adding asked) (onlyTable (tableOf ys)) (r .number) (onlyTable (tableOf zs)) × Exactly (adding asked) (onlyTable (tableOf ys)) ys zs
+  unfolding tests effect changed
+  added-says e e′ ef eo o ez = (record { number = o .number ∙ ap answerNumber same; leaves = leaves }, exactly)
     where
-      used : there .used ≡ protocol.recordOf (x .id) (tableOf ys) .used
+      used : flag (there .used) ≡ protocol.recordOf (x .id) (tableOf ys) .used
       used = ap (λ (s : protocol.Session). s .used) (taken ys (x .id) i there e e′)
 
       room : ltb f (length ys) ≡ protocol.hasFree (tableOf ys)
@@ -115,19 +169,27 @@ module _ (ys zs : List Session) (x : Adding) (material chain : Bytes) (i f : ℕ
       answered : Answer
       answered = added (protocol.recordOf (x .id) (tableOf ys) .used) (protocol.hasFree (tableOf ys))
 
-      same : added (there .used) (ltb f (length ys)) ≡ answered
+      same : added (flag (there .used)) (ltb f (length ys)) ≡ answered
       same = λ j. added (used j) (room j)
 
-      at-free : old ≡ getD ys (freePlace ys) free
-      at-free = eo ∙ ap (λ (k : ℕ). getD ys k free) ef
+      new : r .session ≡ whenDone answered (λ k. stored (protocol.newRecord kdf asked)) (getD ys f free)
+      new = o .session ∙ (λ j. whenDone (same j) (λ k. stored (protocol.newRecord kdf asked)) (eo j))
 
-      stored : sessionOf (t .session) ≡ whenDone answered (λ k. protocol.newRecord kdf asked) (sessionOf (getD ys (freePlace ys) free))
-      stored = o .session ∙ (λ j. whenDone (same j) (λ k. protocol.newRecord kdf asked) (sessionOf (at-free j)))
+      exactly : Exactly (adding asked) (onlyTable (tableOf ys)) ys zs
+      exactly =
+          put answered ys zs f (stored (protocol.newRecord kdf asked)) (ez ∙ ap (set ys f) new)
+          ∙ ap (λ (k : ℕ). whenDone answered (λ n. set ys k (stored (protocol.newRecord kdf asked))) ys) ef
 
--- sealing
-module _ (c : Connection) (id : ℕ) (m : Bytes) (t : List protocol.Session) where
+      leaves : onlyTable (tableOf zs) ≡ left suite (adding asked) (onlyTable (tableOf ys))
+      leaves =
+          ap onlyTable (leaves-table (adding asked) [] ys zs exactly)
+          ∙ when-part onlyTable answered (protocol.fillFree (protocol.newRecord kdf asked) (tableOf ys)) (tableOf ys)
+
+-- ---- sealing
+
+module _ (c : Connection) (id : ℕ) (m : Bytes) (ys : List Session) where
   abbrev record-of : protocol.Session
-  record-of = protocol.recordOf id t
+  record-of = protocol.recordOf id (tableOf ys)
 
   abbrev sealed : Answer
   sealed = verdict (sealTests suite c m record-of id)
@@ -145,27 +207,50 @@ module _ (c : Connection) (id : ℕ) (m : Bytes) (t : List protocol.Session) whe
       go (done k) false q = refl
       go (refused k) b q = absurd (let z : _≡_ {A = ℕ} 0 1 = cc in omega arith)
 
-  moved : record-of .counter < 2 ^ 64 → (a : Answer) → a ≡ sealed
-      → protocol.changeRecord (protocol.counterStep (counterMoves a)) id t ≡ whenDone a (λ n. protocol.changeRecord protocol.countUp id t) t
-  moved fits (done n) e = change-alike (protocol.counterStep 1) protocol.countUp id t (step-one record-of fits (not-last n (sym e)))
-  moved fits (refused n) e = unchanged (protocol.counterStep 0) step-none id t
+  moved : (s : Session) → s .counter < 2 ^ 64 → sessionOf s ≡ record-of → (a : Answer) → a ≡ sealed
+      → stepped (counterMoves a) s ≡ whenDone a (λ n. countedUp s) s
+  moved s fits e (done n) q = step-one s fits (ap (λ (x : protocol.Session). eqb (x .counter) lastCounter) e ∙ not-last n (sym q))
+  moved s fits e (refused n) q = step-none s
 
-  pub sealed-says : (m′ : Bytes) (s : protocol.Session) (by : ℕ) (a : Answer) (t′ : List protocol.Session) → s .counter < 2 ^ 64 → s ≡ record-of
-      → SealsWith s c id m m′ a → by ≡ counterMoves a → t′ ≡ protocol.changeRecord (protocol.counterStep by) id t
-      → Makes (sealing c id) (messageAndTable m t) a (messageAndTable m′ t′)
-  unfolding tests effect
-  sealed-says m′ s by a t′ fits e o eb et =
-      let o′ = subst (λ (x : protocol.Session). SealsWith x c id m m′ a) e o in
-      let q : a ≡ sealed = o′ .answer in
-      let message : m′ ≡ whenDone a (λ n. sealedWith suite c m record-of id) m =
-      o′ .bytes ∙ ap (λ (x : Answer). whenDone x (λ n. sealedWith suite c m record-of id) m) (sym q) in
-      let table : t′ ≡ whenDone a (λ n. protocol.changeRecord protocol.countUp id t) t =
-      et ∙ ap (λ (k : ℕ). protocol.changeRecord (protocol.counterStep k) id t) eb ∙ moved (subst (λ (x : protocol.Session). x .counter < 2 ^ 64) e fits) a q in
-      makes-when (sealing c id) (messageAndTable m t) a q (messageAndTable m′ t′)
-      ((λ j. messageAndTable (message j) (table j))
-      ∙ when-two messageAndTable a (sealedWith suite c m record-of id) m (protocol.changeRecord protocol.countUp id t) t)
+  pub sealed-says : (zs : List Session) (m′ : Bytes) (i by : ℕ) (s : Session) (a : Answer) → i ≡ placeOf id ys → s ≡ getD ys i free
+      → s .counter < 2 ^ 64 → SealsWith (sessionOf s) c id m m′ a → by ≡ counterMoves a → zs ≡ set ys i (stepped by s)
+      → Makes (sealing c id) (messageAndTable m (tableOf ys)) a (messageAndTable m′ (tableOf zs))
+      × Exactly (sealing c id) (messageAndTable m (tableOf ys)) ys zs
+  unfolding tests effect changed
+  sealed-says zs m′ i by s a e e′ fits o eb ez = (made, exactly)
+    where
+      there : sessionOf s ≡ record-of
+      there = taken ys id i s e e′
 
--- opening
+      o′ : SealsWith record-of c id m m′ a
+      o′ = subst (λ (x : protocol.Session). SealsWith x c id m m′ a) there o
+
+      q : a ≡ sealed
+      q = o′ .answer
+
+      exactly : Exactly (sealing c id) (messageAndTable m (tableOf ys)) ys zs
+      exactly =
+          put sealed ys zs i (countedUp (getD ys i free))
+          (ez ∙ ap (set ys i) (ap (λ (k : ℕ). stepped k s) eb ∙ moved s fits there a q ∙ (λ j. whenDone (q j) (λ n. countedUp (e′ j)) (e′ j))))
+          ∙ ap (λ (k : ℕ). whenDone sealed (λ n. set ys k (countedUp (getD ys k free))) ys) e
+
+      message : m′ ≡ whenDone sealed (λ n. sealedWith suite c m record-of id) m
+      message = o′ .bytes
+
+      table : tableOf zs ≡ whenDone sealed (λ n. protocol.changeRecord protocol.countUp id (tableOf ys)) (tableOf ys)
+      table = leaves-table (sealing c id) m ys zs exactly
+
+      made : Makes (sealing c id) (messageAndTable m (tableOf ys)) a (messageAndTable m′ (tableOf zs))
+      made =
+          record {
+            answers = q;
+            leaves =
+                (λ j. messageAndTable (message j) (table j))
+                ∙ when-two messageAndTable sealed (sealedWith suite c m record-of id) m (protocol.changeRecord protocol.countUp id (tableOf ys)) (tableOf ys);
+          }
+
+-- ---- opening
+
 module _ (c : Connection) (m : Bytes) where
   abbrev opened : protocol.Session → Answer
   opened s = verdict (openTests suite c m s)
@@ -189,24 +274,27 @@ module _ (c : Connection) (m : Bytes) where
       (ap (λ (x : Bytes). messageAndTable x t) (o .bytes ∙ ap (λ (x : Answer). whenDone x (λ n. openedTo m (plaintext suite c m s)) m) (sym (o .answer)))
       ∙ when-part (λ (x : Bytes). messageAndTable x t) a (openedTo m (plaintext suite c m s)) m)
 
-  pub opened-says : (t : List protocol.Session) (id : ℕ) (m′ : Bytes) (s : protocol.Session) (a : Answer) → id ≡ namedId m → s ≡ protocol.recordOf id t
-      → OpensWith s c m m′ a → Makes (opening c) (messageAndTable m t) a (messageAndTable m′ t)
-  opened-says t id m′ s a e₀ e o = opens t m′ a (go (leb (length m) 52) refl)
+  pub opened-says : (ys : List Session) (id i : ℕ) (m′ : Bytes) (s : Session) (a : Answer) → id ≡ namedId m → i ≡ placeOf id ys → s ≡ getD ys i free
+      → OpensWith (sessionOf s) c m m′ a → Makes (opening c) (messageAndTable m (tableOf ys)) a (messageAndTable m′ (tableOf ys))
+  opened-says ys id i m′ s a e₀ e e′ o = opens (tableOf ys) m′ a (go (leb (length m) 52) refl)
     where
+      t : List protocol.Session
+      t = tableOf ys
+
       there : protocol.Session
       there = protocol.recordOf (sessionIdOf m) t
 
       go : (b : Bool) → leb (length m) 52 ≡ b → OpensWith there c m m′ a
       go true q =
-          let r = too-short q s in
+          let r = too-short q (sessionOf s) in
           let r′ = too-short q there in
           record {
             answer = o .answer ∙ r ∙ sym r′;
             bytes =
                 o .bytes
-                ∙ ap (λ (x : Answer). whenDone x (λ n. openedTo m (plaintext suite c m s)) m) r
+                ∙ ap (λ (x : Answer). whenDone x (λ n. openedTo m (plaintext suite c m (sessionOf s))) m) r
                 ∙ sym (ap (λ (x : Answer). whenDone x (λ n. openedTo m (plaintext suite c m there)) m) r′);
           }
       go false q =
           let named : namedId m ≡ sessionIdOf m = ap (λ (h : TransformHeader). h .sessionId) (header-there m (leb-false (length m) 52 q)) in
-          subst (λ (x : protocol.Session). OpensWith x c m m′ a) (e ∙ ap (λ (k : ℕ). protocol.recordOf k t) (e₀ ∙ named)) o
+          subst (λ (x : protocol.Session). OpensWith x c m m′ a) (taken ys id i s e e′ ∙ ap (λ (k : ℕ). protocol.recordOf k t) (e₀ ∙ named)) o

@@ -11,11 +11,11 @@ use borrow.Author.Tests.{lt-ltb}
 use lib.ListN.{length, getD, set}
 use lib.Dec.{ltb, isLe}
 use Rattle.session_record.specs.declared.Session.{Session}
+use Rattle.connection.specs.Reading.{flag}
 use Rattle.session_record.specs.Reading.{free, isWanted, sessionOf}
-use Rattle.session_table.specs.Place.{first}
+use Rattle.session_table.specs.Place.{first, placeOf, freePlace}
 use Rattle.protocol.specs.SessionTable as model
 use Rattle.session_table.specs.Reading.{tableOf}
-use Rattle.session_table.proofs.PlaceLaws.{placeOf, freePlace}
 
 pub reads : (id : ℕ) (t : List Session) → model.recordOf id (tableOf t) ≡ sessionOf (getD t (placeOf id t) free)
 unfolding first
@@ -42,7 +42,7 @@ changes f id (x ∷ xs) new e = go (isWanted true id x) (changes f id xs new) e
 pub fills : (new : Session) (t : List Session) → model.fillFree (sessionOf new) (tableOf t) ≡ tableOf (set t (freePlace t) new)
 unfolding first
 fills new [] = refl
-fills new (x ∷ xs) = go (x .used) (fills new xs)
+fills new (x ∷ xs) = go (flag (x .used)) (fills new xs)
   where
     go : (b : Bool) → model.fillFree (sessionOf new) (tableOf xs) ≡ tableOf (set xs (freePlace xs) new)
         → cond b (sessionOf x ∷ model.fillFree (sessionOf new) (tableOf xs)) (sessionOf new ∷ tableOf xs) ≡ tableOf (set (x ∷ xs) (cond (not b) 0 (suc (freePlace xs))) new)
@@ -52,14 +52,14 @@ fills new (x ∷ xs) = go (x .used) (fills new xs)
 pub has-free : (t : List Session) → model.hasFree (tableOf t) ≡ ltb (freePlace t) (length t)
 unfolding first
 has-free [] = refl
-has-free (x ∷ xs) = go (x .used) (has-free xs)
+has-free (x ∷ xs) = go (flag (x .used)) (has-free xs)
   where
     go : (b : Bool) → model.hasFree (tableOf xs) ≡ ltb (freePlace xs) (length xs) → (not b || model.hasFree (tableOf xs)) ≡ ltb (cond (not b) 0 (suc (freePlace xs))) (suc (length xs))
     go true below = below ∙ sym (ap isLe (compare·suc-suc (suc (freePlace xs)) (length xs)))
     go false below = sym (lt-ltb 0 (suc (length xs)) (zero-lt-suc (length xs)))
 
--- a record that reads as the one that stood there, put back: the case of a refusal
-pub keeps : (t : List Session) (i : ℕ) (new : Session) → sessionOf new ≡ sessionOf (getD t i free) → tableOf (set t i new) ≡ tableOf t
-keeps [] i new e = refl
-keeps (x ∷ xs) zero new e = ap (λ (s : model.Session). s ∷ tableOf xs) e
-keeps (x ∷ xs) (suc i) new e = ap (λ (r : List model.Session). sessionOf x ∷ r) (keeps xs i new e)
+-- the record of a place put back there: the case of a refusal
+pub keeps : (t : List Session) (i : ℕ) → set t i (getD t i free) ≡ t
+keeps [] i = refl
+keeps (x ∷ xs) zero = refl
+keeps (x ∷ xs) (suc i) = ap (λ (r : List Session). x ∷ r) (keeps xs i)

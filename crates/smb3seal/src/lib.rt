@@ -1,4 +1,6 @@
 // The calls from C: numbers and byte buffers. What each answers and leaves behind is said by include/smb3seal.h in words.
+mod table;
+
 ghost use Rattle.protocol.specs.Preauth.{negotiateMessage, setupRequest, setupResponse};
 ghost use Rattle.protocol.specs.Calls.{derivation, folding, sealingUnder, openingUnder, onlyMessage, messageAndCounter, onlyChain, onlyKeys};
 ghost use Rattle.protocol.specs.Contract.{Returns};
@@ -55,8 +57,7 @@ pub extern "C" fn smb3seal_seal(
     let sealed = transform::seal_under(c, key, *counter, id, message);
     let answer = sealed.answer;
     *counter = sealed.counter;
-    *headers = answer::carried_to(answer, *headers);
-    answer::number(answer)
+    answer::report(answer, headers)
 }
 
 // Opens the message in place.
@@ -74,6 +75,5 @@ pub extern "C" fn smb3seal_open(
 {
     let c = connection::under_key(dialect, encryption, cipher);
     let answer = transform::open_under(c, key, id, message);
-    *headers = answer::carried_to(answer, *headers);
-    answer::number(answer)
+    answer::report(answer, headers)
 }

@@ -1,12 +1,12 @@
-// The calls with a session table that the caller holds by value: what `session_table` does with a lent run of records, for a program
-// that keeps its table in a local. Each finds the place, takes the record there by value, and puts back what `session_record` makes of it.
+// The calls with a session table that the caller holds by value: what the exports of `smb3seal` do with a lent run of records, for a
+// program that keeps its table in a local. Each finds the place, takes the record there by value, and puts back what `session_record` makes of it.
 use answer::Answer;
 use connection::Connection;
 use session_record::Adding;
 use session_record::Session;
 ghost use mathlib.Core.Path.{_≡_};
 ghost use lib.ListN.{length, replicate};
-ghost use Rattle.protocol.specs.SessionTable.{recordOf, changeRecord, counterStep};
+ghost use Rattle.protocol.specs.SessionTable.{recordOf};
 ghost use Rattle.protocol.specs.Calls.{adding, removing, sealing, opening, onlyTable, messageAndTable};
 ghost use Rattle.protocol.specs.Contract.{Makes, Returns};
 ghost use Rattle.answer.specs.Reading.{answerOf};
@@ -15,6 +15,7 @@ ghost use Rattle.session_record.specs.Reading.{free, isWanted, sessionOf};
 ghost use Rattle.session_record.specs.Adds.{addingOf};
 ghost use Rattle.session_table.specs.Reading.{tableOf};
 ghost use Rattle.session_table.specs.Place.{first, recordAt, putAt};
+ghost use Rattle.session_table.specs.Exactly.{Exactly};
 
 // How many records a table has.
 pub const RECORDS: usize = 16;
@@ -89,18 +90,10 @@ pub fn lookup_in(from: Table, id: u64) -> Session
     at(from, i)
 }
 
-// The counter step of the session of the id: up by that many, and unchanged where it would pass the last.
-pub fn step_in(from: Table, id: u64, by: u64) -> Table
-    ensures { λ r. ⌜ tableOf (r .records) ≡ changeRecord (counterStep by) id (tableOf (from .records)) ⌝ }
-{
-    let i = find(from, true, id);
-    let s = at(from, i);
-    put_at(from, i, session_record::step_record(s, by))
-}
-
 // Adds a session of a new id in the first free record: 40, 18 to 22, or 0. Refused, the table is as it was.
 pub fn add_in(from: Table, a: Adding, material: &[u8], chain: &[u8]) -> ChangedIn
-    ensures { λ r. ⌜ Returns (adding (addingOf a (now (chain .entry)) (now (material .entry)))) (onlyTable (tableOf (from .records))) (r .number) (onlyTable (tableOf (r .table .records))) ⌝ }
+    ensures { λ r. ⌜ Returns (adding (addingOf a (now (chain .entry)) (now (material .entry)))) (onlyTable (tableOf (from .records))) (r .number) (onlyTable (tableOf (r .table .records)))
+        × Exactly (adding (addingOf a (now (chain .entry)) (now (material .entry)))) (onlyTable (tableOf (from .records))) (from .records) (r .table .records) ⌝ }
 {
     let i = find(from, true, a.id);
     let there = at(from, i);
@@ -116,7 +109,8 @@ pub fn add_in(from: Table, a: Adding, material: &[u8], chain: &[u8]) -> ChangedI
 
 // Takes the session of the id out, its keys with it: 6, or 0.
 pub fn remove_in(from: Table, id: u64) -> ChangedIn
-    ensures { λ r. ⌜ Returns (removing id) (onlyTable (tableOf (from .records))) (r .number) (onlyTable (tableOf (r .table .records))) ⌝ }
+    ensures { λ r. ⌜ Returns (removing id) (onlyTable (tableOf (from .records))) (r .number) (onlyTable (tableOf (r .table .records)))
+        × Exactly (removing id) (onlyTable (tableOf (from .records))) (from .records) (r .table .records) ⌝ }
 {
     let i = find(from, true, id);
     let s = at(from, i);
@@ -129,14 +123,16 @@ pub fn remove_in(from: Table, id: u64) -> ChangedIn
 
 // Seals the message in place for the session of the id: 1, 2, 3, 6, 7, 8, 11 to 16, 17. Refused, message and table are as they were.
 pub fn seal_in(from: Table, c: Connection, id: u64, message: &mut [u8]) -> SealedIn
-    ensures { λ r. ⌜ Makes (sealing (connectionOf c) id) (messageAndTable (now (message .entry)) (tableOf (from .records))) (answerOf (r .answer)) (messageAndTable (now (message .exit)) (tableOf (r .table .records))) ⌝ }
+    ensures { λ r. ⌜ Makes (sealing (connectionOf c) id) (messageAndTable (now (message .entry)) (tableOf (from .records))) (answerOf (r .answer)) (messageAndTable (now (message .exit)) (tableOf (r .table .records)))
+        × Exactly (sealing (connectionOf c) id) (messageAndTable (now (message .entry)) (tableOf (from .records))) (from .records) (r .table .records) ⌝ }
 {
-    let s = lookup_in(from, id);
+    let i = find(from, true, id);
+    let s = at(from, i);
     let out = session_record::seal_record(s, c, id, message);
     let moves = session_record::counter_moves(out);
     SealedIn {
         answer: out,
-        table: step_in(from, id, moves),
+        table: put_at(from, i, session_record::step_record(s, moves)),
     }
 }
 
@@ -145,6 +141,7 @@ pub fn open_in(from: Table, c: Connection, message: &mut [u8]) -> Answer
     ensures { λ r. ⌜ Makes (opening (connectionOf c)) (messageAndTable (now (message .entry)) (tableOf (from .records))) (answerOf r) (messageAndTable (now (message .exit)) (tableOf (from .records))) ⌝ }
 {
     let named = session_record::session_id(message);
-    let s = lookup_in(from, named);
+    let i = find(from, true, named);
+    let s = at(from, i);
     session_record::open_record(s, c, message)
 }

@@ -2,7 +2,6 @@
 use crate::calls;
 use crate::show;
 use connection::Connection;
-use connection::Role;
 use session_record::Adding;
 use table_by_value::Table;
 
@@ -124,21 +123,23 @@ pub fn adding(id: u64) -> Adding {
 
 pub fn client(l: Login) -> Connection {
     Connection {
-        role: Role::Client,
         dialect: 0x0311,
-        encryption: true,
         cipher: l.cipher,
-        constrained: false,
+        role: connection::CLIENT,
+        encryption: 1,
+        constrained: 0,
+        spare: 0,
     }
 }
 
 pub fn server(l: Login) -> Connection {
     Connection {
-        role: Role::Server,
         dialect: 0x0311,
-        encryption: true,
         cipher: l.cipher,
-        constrained: false,
+        role: connection::SERVER,
+        encryption: 1,
+        constrained: 0,
+        spare: 0,
     }
 }
 

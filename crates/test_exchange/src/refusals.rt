@@ -119,7 +119,7 @@ pub fn anonymous(l: Login, from: Table) -> Table {
 
 fn constraint(from: Connection) -> Connection {
     let mut c = from;
-    c.constrained = true;
+    c.constrained = 1;
     c
 }
 
@@ -160,7 +160,7 @@ pub fn unknown_id(l: Login, from: Table) -> Table {
 
 fn unencrypted(from: Connection) -> Connection {
     let mut c = from;
-    c.encryption = false;
+    c.encryption = 0;
     c
 }
 

@@ -1,6 +1,6 @@
 -- Right because nothing is stored unless every test has passed, and then the derived keys (AddingLaws).
 use borrow.Author.Needs.{needs}
-use Rattle.session_record.specs.Reading.{sessionOf}
+use Rattle.connection.specs.Reading.{flag}
 use Rattle.session_record.proofs.AddingLaws.{add-refused, add-done}
 use Rattle.session_record.proofs.add_record.Statement.{statement}
 use Rattle.session_record.proofs.add_record.Tie as tie
@@ -8,15 +8,15 @@ use Rattle.session_record.proofs.add_record.Tie as tie
 returns : tie.Need-returns
 returns c =
     let c5 = c .before .before .before .before .before in
-    let x = c5 .before .before .args in
-    add-refused (x .a) (x .chain .now) (x .material .now) (x .there .used) (x .room) (sessionOf (x .old)) _ _ (c .before .before .before .derive .ensures) _
+    let x = c5 .before .before .before .args in
+    add-refused (x .a) (x .chain .now) (x .material .now) (flag (x .there .used)) (x .room) (x .old) _ _ (c .before .before .before .derive .ensures) _
     (c .before .place-number .ensures) (c .if1 .taken)
 
 returns-2 : tie.Need-returns-2
 returns-2 c =
     let c5 = c .before .before .before .before .before in
-    let x = c5 .before .before .before .args in
-    add-done (x .a) (x .chain .now) (x .material .now) (x .there .used) (x .room) (sessionOf (x .old)) _ _
+    let x = c5 .before .before .before .before .args in
+    add-done (x .a) (x .chain .now) (x .material .now) (flag (x .there .used)) (x .room) (x .old) _ _
     (c .before .before .before .before .derive .ensures) _
     (c .before .before .place-number .ensures) (c .before .if1 .left) _ (c .fresh .ensures)
 

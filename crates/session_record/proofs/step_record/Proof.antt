@@ -4,12 +4,12 @@ use native.Mathlib.Omega.{arith}
 use borrow.Author.Needs.{needs}
 use borrow.Author.Tests.{le-leb, lt-leb}
 use Rattle.protocol.specs.Connection.{lastCounter}
-use Rattle.protocol.specs.SessionTable.{counterStep}
+use Rattle.session_record.specs.Reading.{stepped}
 use Rattle.session_record.proofs.step_record.Statement.{statement}
 use Rattle.session_record.proofs.step_record.Tie as tie
 
 returns : tie.Need-returns
-unfolding counterStep
+unfolding stepped
 returns c =
     let a = c .before .before .args in
     let last = c .before .last-counter .ensures in
@@ -17,7 +17,7 @@ returns c =
     simp (lt-leb _ _ past)
 
 returns-2 : tie.Need-returns-2
-unfolding counterStep
+unfolding stepped
 returns-2 c =
     let a = c .before .before .args in
     let last = c .before .last-counter .ensures in

@@ -4,7 +4,7 @@ use borrow.Author.Needs.{needs}
 use Prim.Native.Nat.{ℕ}
 use lib.Dec.{ltb}
 use lib.ListN.{length-map}
-use Rattle.session_record.specs.Reading.{sessionOf}
+use Rattle.connection.specs.Reading.{flag}
 use Rattle.session_record.specs.Adds.{addingOf, AddsWith}
 use Rattle.session_table.proofs.TableCalls.{added-says}
 use Rattle.table_by_value.proofs.add_in.Statement.{statement}
@@ -22,8 +22,8 @@ returns c =
     let t = a .from .records in
     let size = sym (length-map t _) ∙ start .good .0 .1 .1 .0 .1 .0 .1 in
     let asked = addingOf (a .a) (a .chain .now) (a .material .now) in
-    let adds : ℕ → Type 0 = λ n. AddsWith asked (there .at .result .used) (ltb (free .find2 .result) n) (sessionOf (old .at2 .result))
-    (added .result .number) (sessionOf (added .result .session)) in
+    let adds : ℕ → Type 0 = λ n. AddsWith asked (flag (there .at .result .used)) (ltb (free .find2 .result) n) (old .at2 .result) (added .result .number)
+    (added .result .session) in
     added-says t _ (a .a) (a .material .now) (a .chain .now) _ _ _ _ _ (found .find .ensures) (there .at .ensures) (free .find2 .ensures) (old .at2 .ensures)
     (subst adds (sym size) (added .ensures)) (c .put-at .ensures)
 

@@ -1,8 +1,6 @@
 -- Right because the record of the id that the message names opens it.
 use borrow.Author.Needs.{needs}
 use Rattle.connection.specs.Reading.{connectionOf}
-use Rattle.session_record.specs.Reading.{sessionOf}
-use Rattle.session_table.specs.Reading.{tableOf}
 use Rattle.session_table.proofs.TableCalls.{opened-says}
 use Rattle.table_by_value.proofs.open_in.Statement.{statement}
 use Rattle.table_by_value.proofs.open_in.Tie as tie
@@ -10,13 +8,14 @@ use Rattle.table_by_value.proofs.open_in.Tie as tie
 returns : tie.Need-returns
 returns c =
     let opened = c .before .before in
-    let found = opened .before .before in
+    let got = opened .before .before in
+    let found = got .before in
     let named = found .before in
     let a = named .before .before .before .args in
-    opened-says (connectionOf (a .c)) (a .message .now) (tableOf (a .from .records)) _ _ (sessionOf (found .lookup-in .result)) _
-    (named .session-id .ensures) (found .lookup-in .ensures) (opened .open-record .ensures)
+    opened-says (connectionOf (a .c)) (a .message .now) (a .from .records) _ _ _ _ _ (named .session-id .ensures) (found .find .ensures) (got .at .ensures)
+    (opened .open-record .ensures)
 
 pub open-in-spec : {M : Type 1} → statement M
 open-in-spec =
     tie.close
-    (tie.spec (λ c κs. search needs) (λ c κs. search needs) (λ c κs. search needs) (λ c. search needs) returns)
+    (tie.spec (λ c κs. search needs) (λ c κs. search needs) (λ c κs. search needs) (λ c κs. search needs) (λ c. search needs) returns)

@@ -7,10 +7,12 @@ use Rattle.session_record.proofs.new.fresh.Tie as tie
 
 returns : tie.Need-returns
 returns c =
-    let x = c .before .before .before .before .before .before .before .before .before .before .before .args in record-is (x .a) _ _ _ _ _ _ _
-    (c .before .before .before .before .before .before .before .before .bytes-16 .ensures)
-    (c .before .before .before .before .before .before .bytes-162 .ensures) (c .before .before .before .before .bytes-163 .ensures)
-    (c .before .before .before .held .ensures) (c .before .bytes-164 .ensures) (c .held2 .ensures)
+    let c5 = c .before .before .before .before .before in
+    let c10 = c5 .before .before .before .before .before in
+    let x = c10 .before .before .before .args in record-is (x .a) _ _ _ _ _ _ _ _ _
+    (c10 .bytes-16 .ensures)
+    (c5 .before .before .before .bytes-162 .ensures) (c5 .before .bytes-163 .ensures)
+    (c5 .held .ensures) (c .before .before .before .bytes-164 .ensures) (c .before .before .held2 .ensures) (c .before .bit .ensures) (c .bit2 .ensures)
 
 pub fresh-spec : {M : Type 1} → statement M
 fresh-spec =
@@ -24,6 +26,8 @@ fresh-spec =
     (λ c κs. search needs)
     (λ c κs. search needs)
     (λ c. search needs)
+    (λ c κs. search needs)
+    (λ c κs. search needs)
     (λ c κs. search needs)
     (λ c κs. search needs)
     returns)
