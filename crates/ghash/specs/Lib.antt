@@ -1,3 +1,3 @@
-pub mod Field
+pub use Rattle.ghash_field.specs.Field
 pub mod Ghash
 pub mod Elements

@@ -5,8 +5,8 @@ use Prim.Native.Nat.{ℕ, zero, suc, _+_, _-_, _*_, _/_, _%_, _^_, _<_}
 use native.Mathlib.Nat.{zero-mul, one-mul, add-zero, mul-assoc, mod-eq-of-lt}
 use native.Mathlib.Omega.{arith}
 use lib.Bits.{bitXor, bitAnd, and-comm, and-mask, xor-zero-r, xor-block}
-use Rattle.ghash.specs.Field.{R, timesX}
-use Rattle.ghash.specs.Elements.{join}
+use Rattle.ghash_field.specs.Field.{R, timesX}
+use Rattle.ghash_field.specs.Elements.{join}
 
 -- a mask m of 64 equal bits, made by taking the bit from zero
 pub masked : (b m x : ℕ) → b < 2 → m < 2 ^ 64 → x < 2 ^ 64 → (m + b) % 2 ^ 64 ≡ 0 → bitAnd m x ≡ b * x

@@ -6,8 +6,8 @@ use Prim.Native.Nat.{ℕ, _+_}
 use borrow.Author.Needs.{needs}
 use Rattle.octets.proofs.Pairs.{block-is}
 use Rattle.octets.proofs.Paste.{two-runs}
-use Rattle.ghash.proofs.block_of.Statement.{statement}
-use Rattle.ghash.proofs.block_of.Tie as tie
+use Rattle.ghash.proofs.element_block.Statement.{statement}
+use Rattle.ghash.proofs.element_block.Tie as tie
 
 returns : tie.Need-returns
 returns c =
@@ -22,8 +22,8 @@ returns c =
     ∙ ap₂ (λ (x y : List ℕ). x ++ y) (high .u64-bytes .ensures) (low .u64-bytes2 .ensures)
     ∙ block-is (e .hi) (e .lo) (search needs)
 
-pub block-of-spec : {M : Type 1} → statement M
-block-of-spec =
+pub element-block-spec : {M : Type 1} → statement M
+element-block-spec =
     tie.close
     (tie.spec
     (λ c κs. search needs)

@@ -1,8 +1,8 @@
 -- Right because zero less a bit is a mask of 64 bits that are all that bit.
 use borrow.Author.Needs.{needs}
-use Rattle.ghash.proofs.WordLaws.{masked}
-use Rattle.ghash.proofs.field.bit_times.Statement.{statement}
-use Rattle.ghash.proofs.field.bit_times.Tie as tie
+use Rattle.ghash_field.proofs.WordLaws.{masked}
+use Rattle.ghash_field.proofs.terms.bit_times.Statement.{statement}
+use Rattle.ghash_field.proofs.terms.bit_times.Tie as tie
 
 returns : tie.Need-returns
 returns c =

@@ -1,8 +1,8 @@
 -- Right because exclusive or goes word by word.
 use borrow.Author.Needs.{needs}
-use Rattle.ghash.proofs.WordLaws.{join-xor}
-use Rattle.ghash.proofs.field.add.Statement.{statement}
-use Rattle.ghash.proofs.field.add.Tie as tie
+use Rattle.ghash_field.proofs.WordLaws.{join-xor}
+use Rattle.ghash_field.proofs.add.Statement.{statement}
+use Rattle.ghash_field.proofs.add.Tie as tie
 
 returns : tie.Need-returns
 returns c =

@@ -1,8 +1,8 @@
 -- Right because the bit that leaves the high word enters the low one, and R touches the high word alone.
 use borrow.Author.Needs.{needs}
-use Rattle.ghash.proofs.WordLaws.{low-fits, join-timesX}
-use Rattle.ghash.proofs.field.times_x.Statement.{statement}
-use Rattle.ghash.proofs.field.times_x.Tie as tie
+use Rattle.ghash_field.proofs.WordLaws.{low-fits, join-timesX}
+use Rattle.ghash_field.proofs.terms.times_x.Statement.{statement}
+use Rattle.ghash_field.proofs.terms.times_x.Tie as tie
 
 add-t9 : tie.Need-add-t9
 add-t9 c = record { fits = low-fits _ _ (search needs) }

@@ -1,10 +1,10 @@
 -- Right because a bit's multiple goes word by word.
 use mathlib.Core.Path.{ap₂, _∙_}
 use borrow.Author.Needs.{needs}
-use Rattle.ghash.specs.Elements.{join}
-use Rattle.ghash.proofs.WordLaws.{join-bit}
-use Rattle.ghash.proofs.field.select.Statement.{statement}
-use Rattle.ghash.proofs.field.select.Tie as tie
+use Rattle.ghash_field.specs.Elements.{join}
+use Rattle.ghash_field.proofs.WordLaws.{join-bit}
+use Rattle.ghash_field.proofs.terms.select.Statement.{statement}
+use Rattle.ghash_field.proofs.terms.select.Tie as tie
 
 returns : tie.Need-returns
 returns c =
