@@ -2,13 +2,13 @@
 -- Assumes nothing.
 use mathlib.Core.Path.{_≡_, refl, sym, ap, ap₂, _∙_}
 use Prim.Native.Nat.{ℕ, zero, suc, _+_, _-_, _*_, _/_, _%_, _^_, _<_, _≤_}
-use native.Mathlib.Nat.{zero-mul, one-mul, mul-one, zero-div, div-one, add-zero, zero-add, suc-add, add-comm, pow-suc, mul-assoc, mul-comm, le-refl}
+use native.Mathlib.Nat.{zero-mul, one-mul, mul-one, zero-div, div-one, add-zero, zero-add, suc-add, add-comm, pow-suc, mul-assoc, le-refl}
 use native.Mathlib.Omega.{arith}
 use lib.Bits.{bitXor, differ, xor-zero-r, xor-self}
 use lib.Pow.{shr-shr, high, low, field, mod-mod-pow, pow-pos, split}
 use Rattle.octets.proofs.BitXor.{xor-half, xor-odd, xor-swap, xor-assoc}
 use Rattle.ghash_field.specs.Field.{R, timesX, product, mul}
-use Rattle.ghash_field.specs.Elements.{timesPower, fourBits}
+use Rattle.ghash_field.specs.Elements.{timesPower, fourBits, terms}
 
 -- a bit's multiple
 scale-xor : (x y v : ℕ) → x < 2 → y < 2 → differ x y * v ≡ bitXor (x * v) (y * v)
@@ -18,7 +18,7 @@ scale-xor (suc zero) (suc zero) v hx hy = zero-mul v ∙ sym (xor-self (1 * v))
 scale-xor (suc zero) (suc (suc y)) v hx hy = omega arith
 scale-xor (suc (suc x)) y v hx hy = omega arith
 
-pub timesX-xor : (a b : ℕ) → timesX (bitXor a b) ≡ bitXor (timesX a) (timesX b)
+timesX-xor : (a b : ℕ) → timesX (bitXor a b) ≡ bitXor (timesX a) (timesX b)
 unfolding timesX
 timesX-xor a b =
     ap₂ (λ (x y : ℕ). bitXor x (y * R)) (xor-half a b) (xor-odd a b)
@@ -129,7 +129,8 @@ power-zero (suc k) = ap (timesPower k) timesX-zero ∙ power-zero k
 
 pub product-four : (n v : ℕ) → product 4 n v ≡ mul (fourBits n) v
 product-four n v =
-    let none : product 124 (n * 2 ^ 124) v ≡ 0 = sym (product-low 124 124 n 0 v (pow-pos 124) (le-refl 124) ∙ ap (λ (m : ℕ). product 124 m v) (add-zero (n * 2 ^ 124))) ∙ product-none 124 v in
+    let none : product 124 (n * 2 ^ 124) v ≡ 0
+    = sym (product-low 124 124 n 0 v (pow-pos 124) (le-refl 124) ∙ ap (λ (m : ℕ). product 124 m v) (add-zero (n * 2 ^ 124))) ∙ product-none 124 v in
     let top : n * 2 ^ 124 / 2 ^ 124 ≡ n = ap (λ (m : ℕ). m / 2 ^ 124) (sym (add-zero (n * 2 ^ 124))) ∙ high n 124 (pow-pos 124) in
     sym (product-cut 4 124 (n * 2 ^ 124) v
     ∙ ap₂ (λ (a b : ℕ). bitXor (product 4 a v) (timesPower 4 b)) top none
@@ -148,7 +149,7 @@ product-more k x v =
 
 -- its terms one by one, as an entry of the table is made
 pub product-terms : (n a b c d r : ℕ) → b ≡ timesX a → c ≡ timesX b → d ≡ timesX c
-    → r ≡ bitXor (bitXor (n / 8 % 2 * a) (n / 4 % 2 * b)) (bitXor (n / 2 % 2 * c) (n % 2 * d))
+    → r ≡ terms n a b c d
     → r ≡ mul (fourBits n) a
 unfolding product
 product-terms n a b c d r eb ec ed er =

@@ -1,7 +1,7 @@
 -- Two maps that keep exclusive or are equal below 2ⁿ if they are equal at the n powers of two there.
 -- Assumes nothing.
-use mathlib.Core.Path.{_≡_, refl, sym, ap, ap₂, _∙_, subst}
-use Prim.Native.Nat.{ℕ, zero, suc, _+_, _*_, _/_, _%_, _^_, _<_}
+use mathlib.Core.Path.{_≡_, sym, ap, ap₂, _∙_, subst}
+use Prim.Native.Nat.{ℕ, zero, suc, _*_, _/_, _%_, _^_, _<_}
 use native.Mathlib.Nat.{mod-lt, div-add-mod', pow-suc, zero-mul, one-mul, add-zero, div-lt-iff-lt-mul, mul-comm, lt-suc-self}
 use native.Mathlib.Omega.{arith}
 use lib.Arith.{lt-one}
@@ -15,7 +15,7 @@ Linear f = (a b : ℕ) → f (bitXor a b) ≡ bitXor (f a) (f b)
 at-zero : (f : ℕ → ℕ) → Linear f → f 0 ≡ 0
 at-zero f l = l 0 0 ∙ xor-self (f 0)
 
-pub bit-times : (f g : ℕ → ℕ) → Linear f → Linear g → (b m : ℕ) → b < 2 → f m ≡ g m → f (b * m) ≡ g (b * m)
+bit-times : (f g : ℕ → ℕ) → Linear f → Linear g → (b m : ℕ) → b < 2 → f m ≡ g m → f (b * m) ≡ g (b * m)
 bit-times f g lf lg zero m h e = ap f (zero-mul m) ∙ at-zero f lf ∙ sym (at-zero g lg) ∙ ap g (sym (zero-mul m))
 bit-times f g lf lg (suc zero) m h e = ap f (one-mul m) ∙ e ∙ ap g (sym (one-mul m))
 bit-times f g lf lg (suc (suc b)) m h e = absurd (omega arith)

@@ -1,7 +1,7 @@
 -- A turn of the multiplication takes four bits of each word in, and sixteen turns are the product.
 -- Assumes nothing.
-use mathlib.Core.Path.{_≡_, refl, sym, ap, ap₂, _∙_}
-use Prim.Native.Nat.{ℕ, zero, suc, _+_, _-_, _*_, _/_, _%_, _^_, _<_, _≤_}
+use mathlib.Core.Path.{_≡_, sym, ap, ap₂, _∙_}
+use Prim.Native.Nat.{ℕ, _+_, _-_, _*_, _/_, _%_, _^_, _<_, _≤_}
 use native.Mathlib.Nat.{mul-assoc, div-one}
 use native.Mathlib.Omega.{arith}
 use lib.Bits.{bitXor}
@@ -73,16 +73,17 @@ module _ (k : ℕ) where
           → timesPower 64 (timesPower (4 * k) (bitXor a b)) ≡ bitXor (timesPower 64 (timesPower (4 * k) a)) (timesPower 64 (timesPower (4 * k) b))
       two a b = ap (timesPower 64) (power-xor (4 * k) a b) ∙ power-xor 64 (timesPower (4 * k) a) (timesPower (4 * k) b)
 
-pub summed-turn : (k hi lo v w p q r : ℕ) → k < 16
+pub summed-turn : (k hi lo v w p q s r : ℕ) → k < 16
     → p ≡ mul (fourBits (rest k hi / 2 ^ 60)) v
     → q ≡ mul (fourBits (rest k lo / 2 ^ 60)) v
-    → r ≡ bitXor w (bitXor (p * 2 ^ 64) q) * 16
+    → s ≡ bitXor w (bitXor (p * 2 ^ 64) q)
+    → r ≡ s * 16
     → Summed k hi lo v w
     → Summed (k + 1) hi lo v r
-summed-turn k hi lo v w p q r h ep eq er s =
-    ap (λ (n : ℕ). timesPower 64 (timesPower (4 * (k + 1)) n)) er
+summed-turn k hi lo v w p q s r h ep eq es er before-it =
+    ap (λ (n : ℕ). timesPower 64 (timesPower (4 * (k + 1)) n)) (er ∙ ap (λ (n : ℕ). n * 16) es)
     ∙ later k w p q
-    ∙ ap (λ (n : ℕ). bitXor n (bitXor (timesPower (4 * k) p) (timesPower 64 (timesPower (4 * k) q)))) s
+    ∙ ap (λ (n : ℕ). bitXor n (bitXor (timesPower (4 * k) p) (timesPower 64 (timesPower (4 * k) q)))) before-it
     ∙ xor-swap (part hi) (timesPower 64 (part lo)) (timesPower (4 * k) p) (timesPower 64 (timesPower (4 * k) q))
     ∙ ap₂ bitXor (more hi p ep) (sym (power-xor 64 (part lo) (timesPower (4 * k) q)) ∙ ap (timesPower 64) (more lo q eq))
   where

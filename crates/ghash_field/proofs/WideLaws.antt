@@ -3,14 +3,14 @@
 use mathlib.Core.Path.{_≡_, refl, sym, ap, ap₂, _∙_}
 use mathlib.Core.Bool.{Bool}
 use mathlib.Core.List.{List}
-use Prim.Native.Nat.{ℕ, zero, suc, _+_, _*_, _/_, _%_, _^_, _<_}
+use Prim.Native.Nat.{ℕ, _+_, _*_, _/_, _%_, _^_, _<_}
 use native.Mathlib.Nat.{add-zero, mod-lt}
 use native.Mathlib.Omega.{arith}
 use lib.Bits.{bitXor, xor-zero-r, xor-shifted, xor-lt}
 use lib.Pow.{pow-pos, high, low as low-part}
 use lib.Dec.{eqb, eqb→eq}
 use lib.ListN.{replicate}
-use Rattle.octets.proofs.Every.{every, at}
+use Rattle.octets.proofs.Every.{at}
 use Rattle.ghash_field.specs.Field.{timesX}
 use Rattle.ghash_field.specs.Elements.{join, timesPower}
 use Rattle.ghash_field.proofs.FieldLaws.{power-xor, power-shifted}
@@ -62,10 +62,10 @@ highest-grows a b h = omega arith
 
 -- ---- the 64 bits to the right
 
-abbrev pub foldHigh : ℕ → ℕ
+abbrev foldHigh : ℕ → ℕ
 foldHigh d = bitXor (bitXor (bitXor d (d / 2 ^ 1)) (d / 2 ^ 2)) (d / 2 ^ 7)
 
-abbrev pub foldLow : ℕ → ℕ
+abbrev foldLow : ℕ → ℕ
 foldLow d = bitXor (bitXor (d * 2 ^ 63 % 2 ^ 64) (d * 2 ^ 62 % 2 ^ 64)) (d * 2 ^ 57 % 2 ^ 64)
 
 fold : ℕ → ℕ

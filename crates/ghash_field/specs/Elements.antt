@@ -2,7 +2,8 @@
 -- Assumes nothing.
 use mathlib.Core.Path.{_≡_}
 use mathlib.Core.List.{List}
-use Prim.Native.Nat.{ℕ, zero, suc, _+_, _*_, _^_, _<_}
+use Prim.Native.Nat.{ℕ, zero, suc, _+_, _*_, _/_, _%_, _^_, _<_}
+use lib.Bits.{bitXor}
 use lib.ListN.{getD}
 use Rattle.ghash_field.specs.declared.Element.{Element}
 use Rattle.ghash_field.specs.declared.wide.Wide.{Wide}
@@ -22,6 +23,10 @@ fourBits n = n * 2 ^ 124
 -- t holds the sixteen products of the four-bit values with h: first their high words, then their low ones
 pub record Products (t : List ℕ) (h : ℕ) : Type 0 where
   pub product : (n : ℕ) → n < 16 → join (getD t n 0) (getD t (n + 16) 0) ≡ mul (fourBits n) h
+
+-- the sum of those of a, b, c and d for which n has a bit, a for the highest of four
+abbrev pub terms : ℕ → ℕ → ℕ → ℕ → ℕ → ℕ
+terms n a b c d = bitXor (bitXor (n / 8 % 2 * a) (n / 4 % 2 * b)) (bitXor (n / 2 % 2 * c) (n % 2 * d))
 
 -- four words of 64 bits as one number
 abbrev pub wideOf : Wide → ℕ

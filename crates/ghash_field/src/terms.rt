@@ -2,10 +2,9 @@
 use crate::Element;
 use crate::add;
 ghost use mathlib.Core.Path.{_≡_};
-ghost use Prim.Native.Nat.{_*_, _/_, _%_, _<_};
-ghost use lib.Bits.{bitXor};
+ghost use Prim.Native.Nat.{_*_, _<_};
 ghost use Rattle.ghash_field.specs.Field.{timesX};
-ghost use Rattle.ghash_field.specs.Elements.{elementOf};
+ghost use Rattle.ghash_field.specs.Elements.{elementOf, terms};
 
 // x where the bit b is 1, and 0 where it is 0, by a mask of 64 equal bits.
 fn bit_times(b: u64, x: u64) -> u64
@@ -38,7 +37,7 @@ fn select(b: u64, y: Element) -> Element
 
 // The sum of those of a, b, c and d for which n has a bit, a for the highest of four.
 pub fn sum(n: u64, a: Element, b: Element, c: Element, d: Element) -> Element
-    ensures { λ r. ⌜ elementOf r ≡ bitXor (bitXor (n / 8 % 2 * elementOf a) (n / 4 % 2 * elementOf b)) (bitXor (n / 2 % 2 * elementOf c) (n % 2 * elementOf d)) ⌝ }
+    ensures { λ r. ⌜ elementOf r ≡ terms n (elementOf a) (elementOf b) (elementOf c) (elementOf d) ⌝ }
 {
     add(
         add(select(n / 8 % 2, a), select(n / 4 % 2, b)),

@@ -5,7 +5,7 @@ use lib.ListN.{length}
 use borrow.Author.Needs.{needs}
 use Rattle.octets.specs.Numbers.{bigEndian}
 use Rattle.octets.proofs.BlockLaws.{zeroPadded-exact}
-use Rattle.ghash_field.specs.Elements.{Products}
+use Rattle.ghash_field.specs.Elements.{elementOf, Products}
 use Rattle.ghash.proofs.prepare.Statement.{statement}
 use Rattle.ghash.proofs.prepare.Tie as tie
 
@@ -14,7 +14,8 @@ returns c =
     let e = c .before in
     let h = e .before .before .args .t1 in
     let l : length h ≡ 16 = search needs in
-    record { products = subst (λ (n : ℕ). Products (c .products .result) n) (e .element .ensures ∙ ap bigEndian (zeroPadded-exact 16 h l)) (c .products .ensures) }
+    let is : elementOf (e .element .result) ≡ bigEndian h = e .element .ensures ∙ ap bigEndian (zeroPadded-exact 16 h l) in
+    record { products = subst (λ (n : ℕ). Products (c .products .result) n) is (c .products .ensures) }
 
 pub prepare-spec : {M : Type 1} → statement M
 prepare-spec = tie.close (tie.spec (λ c. search needs) (λ c κs. search needs) (λ c κs. search needs) returns)

@@ -21,10 +21,12 @@ abbrev μ-loop : tie.MeasureT-loop
 μ-loop t w₀ p₀ q₀ k₀ w p q k = 16 - k
 
 -- the entry that four bits choose
-looked-up : {t : List ℕ} {p : ℕ} (k x h : ℕ) → Products t h → p ≡ rest k x
-    → join (getD t (p / 2 ^ 60) 0) (getD t (p / 2 ^ 60 + 16) 0) ≡ mul (fourBits (rest k x / 2 ^ 60)) h
-looked-up {t} {p} k x h holds e =
-    holds .product (p / 2 ^ 60) (next-fits p (subst (λ (n : ℕ). n < 2 ^ 64) (sym e) (mod-lt (x * 2 ^ (4 * k)) (pow-pos 64))))
+looked-up : {t : List ℕ} {p r : ℕ} (k x h : ℕ) → Products t h → p ≡ rest k x
+    → r ≡ join (getD t (p / 2 ^ 60) 0) (getD t (p / 2 ^ 60 + 16) 0)
+    → r ≡ mul (fourBits (rest k x / 2 ^ 60)) h
+looked-up {t} {p} k x h holds e er =
+    er
+    ∙ holds .product (p / 2 ^ 60) (next-fits p (subst (λ (n : ℕ). n < 2 ^ 64) (sym e) (mod-lt (x * 2 ^ (4 * k)) (pow-pos 64))))
     ∙ ap (λ (m : ℕ). mul (fourBits (m / 2 ^ 60)) h) e
 
 loop-holds : tie.Need-loop-holds Inv-loop μ-loop
@@ -37,12 +39,6 @@ loop-holds c =
       rest-all (x .lo) (search needs),
       omega arith,
     )
-
-at-requires : tie.Need-at-requires Inv-loop μ-loop
-at-requires c κs = next-fits _ (search needs)
-
-at-requires-2 : tie.Need-at-requires-2 Inv-loop μ-loop
-at-requires-2 c κs = next-fits _ (search needs)
 
 shifted-requires : tie.Need-shifted-requires Inv-loop μ-loop
 shifted-requires c κs =
@@ -61,10 +57,10 @@ loop-again c =
     let i = k .loop .inv in
     let n = k .loop .k in (
       (λ h t.
-          summed-turn n (x .hi) (x .lo) h (wideOf (k .loop .w)) _ _ _ (test .loop-test .taken)
-          (first .at .ensures ∙ looked-up n (x .hi) h t (i .2))
-          (second .at2 .ensures ∙ looked-up n (x .lo) h t (i .3))
-          (c .shifted .ensures .0 ∙ ap (λ (m : ℕ). m * 16) (a .added .ensures .0)) (i .0 h t)),
+          summed-turn n (x .hi) (x .lo) h (wideOf (k .loop .w)) _ _ _ _ (test .loop-test .taken)
+          (looked-up n (x .hi) h t (i .2) (first .at .ensures))
+          (looked-up n (x .lo) h t (i .3) (second .at2 .ensures))
+          (a .added .ensures .0) (c .shifted .ensures .0) (i .0 h t)),
       room-turn n (k .loop .w .w3) _ _ (a .added .ensures .1) (i .1) (c .shifted .ensures .1),
       rest-turn n (x .hi) (k .loop .p) (i .2),
       rest-turn n (x .lo) (k .loop .q) (i .3),
@@ -88,8 +84,8 @@ multiply-spec =
     μ-loop
     (λ c κs. search needs)
     loop-holds
-    at-requires
-    at-requires-2
+    (λ c κs. search needs)
+    (λ c κs. search needs)
     (λ c κs. search needs)
     shifted-requires
     (λ c. omega arith)
