@@ -43,7 +43,7 @@ pub fn products(h: Element) -> [u64; 32]
     t
 }
 
-// Entry n.
+// The product of the four bits n.
 fn at(t: &[u64; 32], n: u64) -> Element
     requires { ⌜ n < 16 ⌝ }
     ensures { λ r. ⌜ elementOf r ≡ join (getD (now (t .entry)) n 0) (getD (now (t .entry)) (n + 16) 0) ⌝ }
@@ -55,7 +55,7 @@ fn at(t: &[u64; 32], n: u64) -> Element
     }
 }
 
-// x • h, by the table of h. The two words of x go side by side, from their first four bits on; what falls out is taken in at the end.
+// x • h, by the table of h. The words of x go side by side, four bits of each in a turn; the reduction waits for the end.
 pub fn multiply(t: &[u64; 32], x: Element) -> Element
     ensures { λ r. ⌜ ((h : ℕ) → Products (now (t .entry)) h → elementOf r ≡ mul (elementOf x) h) ⌝ }
 {

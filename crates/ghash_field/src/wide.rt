@@ -24,7 +24,7 @@ pub fn zero() -> Wide
     }
 }
 
-// w with the element p a word from the right, and q at the right.
+// w and the elements p, which ends a word before w does, and q, which ends with w.
 pub fn added(w: Wide, p: Element, q: Element) -> Wide
     ensures { λ r. ⌜ (wideOf r ≡ bitXor (wideOf w) (bitXor (elementOf p * 2 ^ 64) (elementOf q))) × (r .w3 ≡ w .w3) ⌝ }
 {
@@ -49,7 +49,7 @@ pub fn shifted(w: Wide) -> Wide
     }
 }
 
-// The 64 bits d to the right of e, taken in: x⁶⁴ and R make 1, x, x² and x⁷ of each.
+// The 64 bits d to the right of e, taken in: x¹²⁸ is 1 + x + x² + x⁷ (6.3), so that each comes back at four places.
 fn folded(e: Element, d: u64) -> Element
     ensures { λ r. ⌜ elementOf r ≡ timesPower 64 (elementOf e * 2 ^ 64 + d) ⌝ }
 {
@@ -59,6 +59,7 @@ fn folded(e: Element, d: u64) -> Element
     }
 }
 
+// Both words to the right of an element, the last first.
 pub fn reduced(w: Wide) -> Element
     ensures { λ r. ⌜ elementOf r ≡ timesPower 64 (timesPower 64 (wideOf w)) ⌝ }
 {
