@@ -1,18 +1,13 @@
--- GHASH of joined and of padded strings, and of the block that two words make.
+-- GHASH of joined and of padded strings.
 -- Assumes nothing.
-use mathlib.Core.Path.{_≡_, sym, ap, _∙_}
+use mathlib.Core.Path.{_≡_, ap, _∙_}
 use mathlib.Core.List.{List, _++_}
-use Prim.Native.Nat.{ℕ, _+_, _*_, _^_, _<_}
+use Prim.Native.Nat.{ℕ, _+_, _*_}
 use native.Mathlib.Omega.{arith}
-use lib.Bits.{bitXor}
 use lib.ListN.{length, length-append}
-use Rattle.octets.specs.Numbers.{bigEndian, toBigEndian}
 use Rattle.octets.specs.Blocks.{blockCount, padded, overBlocks}
-use Rattle.octets.proofs.BlockLaws.{zeroPadded-exact, over-append, over-padded, length-padded}
-use Rattle.ghash.specs.Field.{mul}
+use Rattle.octets.proofs.BlockLaws.{over-append, over-padded, length-padded}
 use Rattle.ghash.specs.Ghash.{step, ghashFrom}
-use Rattle.ghash.specs.Elements.{join}
-use Rattle.octets.proofs.Pairs.{length-pair, pair-is}
 
 module _ (h y : ℕ) where
   -- whole blocks a, then b
@@ -33,12 +28,3 @@ module _ (h y : ℕ) where
       let l = length-padded xs in
       let m : blockCount (length (padded xs)) ≡ blockCount (length xs) = omega arith in
       ap (overBlocks (step h) y (padded xs)) m ∙ over-padded (step h) y xs
-
-  pub ghash-pair : (a b r : ℕ) → a < 2 ^ 64 → b < 2 ^ 64 → r ≡ mul (bitXor y (join a b)) h → r ≡ ghashFrom h y (toBigEndian 8 a ++ toBigEndian 8 b)
-  unfolding ghashFrom overBlocks
-  ghash-pair a b r ha hb e =
-      let xs : List ℕ = toBigEndian 8 a ++ toBigEndian 8 b in
-      let l : length xs ≡ 16 = length-pair a b in
-      e
-      ∙ ap (λ (n : ℕ). mul (bitXor y n) h) (pair-is a b ha hb ∙ ap bigEndian (sym (zeroPadded-exact 16 xs l)))
-      ∙ ap (λ (n : ℕ). overBlocks (step h) y xs (blockCount n)) (sym l)

@@ -1,3 +1,1 @@
-pub mod FieldLaws
-pub mod WordLaws
 pub mod GhashLaws

@@ -6,7 +6,7 @@ use lib.Bits.{bitXor}
 use lib.ListN.{length}
 use Rattle.octets.specs.Blocks.{blockCount, overBlocks}
 use Rattle.octets.specs.Numbers.{bigEndian}
-use Rattle.ghash.specs.Field.{mul}
+use Rattle.ghash_field.specs.Field.{mul}
 
 -- 6.4, step 3: Yᵢ is (Yᵢ₋₁ ⊕ Xᵢ) • H
 abbrev pub step : ℕ → ℕ → List ℕ → ℕ

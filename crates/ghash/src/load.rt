@@ -1,11 +1,11 @@
 // Elements read from bytes.
-use crate::Element;
+use ghash_field::Element;
 ghost use mathlib.Core.Path.{_≡_};
 ghost use Prim.Native.Nat.{_+_, _≤_};
 ghost use lib.ListN.{length, drop};
 ghost use Rattle.octets.specs.Numbers.{bigEndian};
 ghost use Rattle.octets.specs.Blocks.{zeroPadded};
-ghost use Rattle.ghash.specs.Elements.{elementOf};
+ghost use Rattle.ghash_field.specs.Elements.{elementOf};
 
 // The element in the 16 bytes from `at` on.
 pub fn element(s: &[u8], at: usize) -> Element

@@ -5,12 +5,12 @@ use mathlib.Core.List.{List, _++_}
 use Prim.Native.Nat.{ℕ, _+_, _*_, _^_, _<_, _≤_}
 use native.Mathlib.Omega.{arith}
 use lib.Pow.{high, low}
-use lib.ListN.{length, take, drop, length-append, length-drop}
+use lib.ListN.{length, take, drop, length-drop}
 use lib.Seq.{take-add, drop-drop, length-take-le}
 use Rattle.octets.specs.Numbers.{bigEndian, toBigEndian, bytesAt}
 use Rattle.octets.specs.Blocks.{zeroPadded}
 use Rattle.octets.proofs.BlockLaws.{zeroPadded-whole}
-use Rattle.octets.proofs.NumberLaws.{big-joined, big-back, big-split, big-low, length-toBigEndian}
+use Rattle.octets.proofs.NumberLaws.{big-joined, big-split, big-low}
 
 -- two numbers as one of 16 bytes
 abbrev pair : ℕ → ℕ → ℕ
@@ -31,15 +31,7 @@ words-at s at h =
     ∙ ap (λ (l : List ℕ). take 8 (drop at s) ++ take 8 l) (drop-drop 8 at s))
     ∙ pair-bytes (bytesAt at 8 s) (bytesAt (at + 8) 8 s) (length-take-le 8 (drop (at + 8) s) (omega arith)))
 
-pub length-pair : (a b : ℕ) → length (toBigEndian 8 a ++ toBigEndian 8 b) ≡ 16
-length-pair a b =
-    length-append (toBigEndian 8 a) (toBigEndian 8 b) ∙ ap₂ _+_ (length-toBigEndian 8 a) (length-toBigEndian 8 b)
-
 -- two numbers, written one behind the other
-pub pair-is : (a b : ℕ) → a < 2 ^ 64 → b < 2 ^ 64 → pair a b ≡ bigEndian (toBigEndian 8 a ++ toBigEndian 8 b)
-pair-is a b ha hb =
-    sym (pair-bytes (toBigEndian 8 a) (toBigEndian 8 b) (length-toBigEndian 8 b) ∙ ap₂ pair (big-back 8 a ha) (big-back 8 b hb))
-
 pub block-is : (a b : ℕ) → b < 2 ^ 64 → toBigEndian 8 a ++ toBigEndian 8 b ≡ toBigEndian 16 (pair a b)
 block-is a b hb =
     sym (big-split 8 8 (pair a b)

@@ -1,7 +1,7 @@
 -- Right because the first eight of 16 bytes are the high word.
 use mathlib.Core.Path.{ap₂, _∙_}
 use borrow.Author.Needs.{needs}
-use Rattle.ghash.specs.Elements.{join}
+use Rattle.ghash_field.specs.Elements.{join}
 use Rattle.octets.proofs.Pairs.{words-at}
 use Rattle.ghash.proofs.load.element.Statement.{statement}
 use Rattle.ghash.proofs.load.element.Tie as tie
