@@ -11,7 +11,10 @@ fn cmac_sized(key: &[u8], front: &[u8], back: &[u8]) -> [u8; 16]
 {
     let keys = aes::expand_key(arrays::bytes_16(key, 0));
     let t = aes::table();
-    cmac::Mac::new().update(&t, keys, front).update(&t, keys, back).finish(&t, keys)
+    cmac::Mac::new()
+        .update(&t, keys, front)
+        .update(&t, keys, back)
+        .finish(&t, keys)
 }
 
 #[no_mangle]
