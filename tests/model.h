@@ -1,6 +1,6 @@
 /*
  * The rules of the rules a second time, on top of OpenSSL: written from the papers, and sharing nothing with the library but this
- * shape of the five functions. include/smb3seal.h says what they take.
+ * shape of the functions. include/smb3seal.h says what they take.
  */
 #ifndef MODEL_H
 #define MODEL_H
@@ -16,5 +16,7 @@ uint32_t model_seal(uint16_t dialect, uint32_t encryption, uint16_t cipher, cons
                     uint64_t *counter, uint8_t *message, size_t message_len, uint64_t *headers);
 uint32_t model_open(uint16_t dialect, uint32_t encryption, uint16_t cipher, const uint8_t *key, size_t key_len, uint64_t session_id,
                     uint8_t *message, size_t message_len, uint64_t *headers);
+uint32_t model_sign(const uint8_t *key, size_t key_len, uint8_t *message, size_t message_len);
+uint32_t model_verify(const uint8_t *key, size_t key_len, const uint8_t *message, size_t message_len);
 
 #endif

@@ -3,7 +3,7 @@
 
 TEST_HEADERS = $(wildcard tests/*.h) include/smb3seal.h $(BUILD)/smb3_vectors.h
 SHARED = check openssl_aead model call messages generate
-LIBRARY_TESTS = vectors_test numbers_test lengths_test walk_test bits_test random_test guard_test
+LIBRARY_TESTS = vectors_test numbers_test lengths_test walk_test bits_test random_test guard_test sign_test
 
 # Each program twice: as it is, and with the sanitizers.
 $(BUILD)/plain/%.o: tests/%.c $(TEST_HEADERS)
@@ -29,11 +29,11 @@ VALGRIND = valgrind --quiet --error-exitcode=1 --leak-check=full
 VALGRIND_CASES = 10000
 
 # Each program once more, with a library that can be made wrong.
-FIVE = derive fold fold_response seal open
+WRAPPED = derive fold fold_response seal open sign verify
 MUTANTS = $(LIBRARY_TESTS:%=$(BUILD)/mutants/%)
 $(MUTANTS): $(BUILD)/mutants/%: $(BUILD)/plain/%.o $(SHARED:%=$(BUILD)/plain/%.o) $(BUILD)/plain/mutants.o $(ARCHIVE)
 	@mkdir -p $(@D)
-	$(CC) $(FIVE:%=-Wl,--wrap=smb3seal_%) $^ -lcrypto -o $@
+	$(CC) $(WRAPPED:%=-Wl,--wrap=smb3seal_%) $^ -lcrypto -o $@
 
 outside: setup-test
 	@$(MAKE) --silent --no-print-directory NO_SETUP=1 outside-tests
