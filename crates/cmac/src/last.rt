@@ -36,10 +36,11 @@ pub fn last_block(t: &[u32; 256], keys: [[u8; 16]; 11], part: &[u8]) -> [u8; 16]
     ensures { λ r. ⌜ r ≡ lastBlock (blockCipher keys) (now (part .entry)) ⌝ }
 {
     let k1 = double(aes::encrypt_block(t, keys, [0u8; 16]));
+    let k2 = double(k1);
     let mut block = blocks::block_at(part, 0);
     if part.len() == 16 {
         return runs::xor_16(block, k1);
     }
     block[part.len()] = 0x80;
-    runs::xor_16(block, double(k1))
+    runs::xor_16(block, k2)
 }

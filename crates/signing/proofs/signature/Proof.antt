@@ -23,7 +23,7 @@ use Rattle.signing.proofs.signature.Tie as tie
 slice-aggregate-update : tie.Need-slice-aggregate-update
 slice-aggregate-update c =
     let st = c .before .before .before .before .before .before .before .before in
-    sym (length-take-le 48 (now (st .args .m)) (omega (arith, st .pre .1)))
+    sym (length-take-le _ (now (st .args .m)) (omega (arith, st .pre .1)))
 
 returns : tie.Need-returns
 unfolding signatureUnder

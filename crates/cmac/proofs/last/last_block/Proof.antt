@@ -12,8 +12,8 @@ use Rattle.cmac.proofs.last.last_block.Tie as tie
 
 returns : tie.Need-returns
 returns c =
-    let a = c .before .before .before .before .before .before .args in
-    let k1 = c .before .before .before .double .ensures ∙ ap doubled (c .before .before .before .before .encrypt-block .ensures) in
+    let a = c .before .before .before .before .before .before .before .args in
+    let k1 = c .before .before .before .before .double .ensures ∙ ap doubled (c .before .before .before .before .before .encrypt-block .ensures) in
     whole-block (blockCipher (a .keys)) (now (a .part)) _ (c .before .before .block-at .ensures) _ _ (c .before .if1 .taken) k1 (c .xor-16 .ensures)
 
 returns-2 : tie.Need-returns-2
@@ -21,8 +21,8 @@ returns-2 c =
     let st = c .before .before .before .before .before .before .before in
     let a = st .args in
     let k1 = c .before .before .before .before .double .ensures ∙ ap doubled (c .before .before .before .before .before .encrypt-block .ensures) in
-    padded-block (blockCipher (a .keys)) (now (a .part)) _ (c .before .before .before .block-at .ensures) _ _ (st .pre .1) (c .before .before .if1 .left)
-    (c .before .double2 .ensures ∙ ap doubled k1) (c .xor-162 .ensures)
+    padded-block (blockCipher (a .keys)) (now (a .part)) _ (c .before .before .block-at .ensures) _ _ (st .pre .1) (c .before .if1 .left)
+    (c .before .before .before .double2 .ensures ∙ ap doubled k1) (c .xor-162 .ensures)
 
 pub last-block-spec : {M : Type 1} → statement M
 last-block-spec =
@@ -32,8 +32,8 @@ last-block-spec =
     (λ c κs. search needs)
     (λ c κs. search needs)
     (λ c κs. search needs)
+    (λ c κs. search needs)
     returns
     (λ c. search needs)
-    (λ c κs. search needs)
     (λ c κs. search needs)
     returns-2)
