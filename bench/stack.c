@@ -69,6 +69,17 @@ static uint32_t open(void)
     return smb3seal_open(SMB3SEAL_DIALECT_311, 1, current->cipher, key, 16, SESSION, message, sizeof message, &headers);
 }
 
+/* In clear: the message behind the room for a transform header. */
+static uint32_t sign(void)
+{
+    return smb3seal_sign(key, 16, message + HEADER, LONGEST);
+}
+
+static uint32_t verify(void)
+{
+    return smb3seal_verify(key, 16, message + HEADER, LONGEST);
+}
+
 /* The longest message, a chain of headers of 64 bytes each. */
 static void plain(void)
 {
@@ -115,6 +126,12 @@ static void sealed_with_bad_header(void)
     if (r != 0) exit(1);
 }
 
+static void signed_in_clear(void)
+{
+    plain();
+    if (sign() != SMB3SEAL_DONE) exit(1);
+}
+
 static const struct call calls[] = {
     {"derive, 3.0", plain, derive_300, 0, SMB3SEAL_DONE},
     {"derive, 3.1.1", plain, derive_311, 0, SMB3SEAL_DONE},
@@ -128,6 +145,8 @@ static const struct call calls[] = {
     {"open, GCM, bad tag", sealed_with_bad_tag, open, GCM, SMB3SEAL_BAD_TAG},
     {"open, CCM, bad inner header", sealed_with_bad_header, open, CCM, SMB3SEAL_NOT_HEADER},
     {"open, GCM, bad inner header", sealed_with_bad_header, open, GCM, SMB3SEAL_NOT_HEADER},
+    {"sign", plain, sign, 0, SMB3SEAL_DONE},
+    {"verify", signed_in_clear, verify, 0, SMB3SEAL_DONE},
 };
 
 static void run_current(void)
