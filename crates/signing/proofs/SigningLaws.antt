@@ -36,10 +36,14 @@ pub flagged-is : (flags m : Bytes) → length flags ≡ 4 → paste m 16 flags (
 flagged-is flags m l =
     ap₂ (λ (x : Bytes) (k : ℕ). (take 16 m ++ x) ++ drop (16 + k) m) (take-length flags) l ∙ append-assoc (take 16 m) flags (drop 20 m)
 
--- the three pieces that the code takes in
-pub pieces-are : (m : Bytes) → ((take 48 m) ++ replicate 16 0) ++ drop 64 m ≡ withSignature (replicate 16 0) m
+-- the copy of the header that the code takes in before the rest: zeros, of which the first 48 were replaced
+pub taken-in : (m header rest : Bytes) → length (take 48 m) ≡ 48 → header ≡ paste (replicate 64 0) 0 (take 48 m) (length (take 48 m))
+    → rest ≡ drop 64 m → header ++ rest ≡ withSignature (replicate 16 0) m
 unfolding withSignature
-pieces-are m = append-assoc (take 48 m) (replicate 16 0) (drop 64 m)
+taken-in m header rest l e er =
+    let filled : header ≡ take 48 m ++ replicate 16 0 =
+    e ∙ ap (paste (replicate 64 0) 0 (take 48 m)) l ∙ ap (λ (x : Bytes). x ++ replicate 16 0) (take-all 48 (take 48 m) (le-of-eq l)) in
+    ap₂ _++_ filled er ∙ append-assoc (take 48 m) (replicate 16 0) (drop 64 m)
 
 -- the lines, from the last
 pub first-is : (key m : Bytes) (begins : Bool) (limit n12 n11 n3 n40 : ℕ) → begins ≡ isInnerHeader m 0 → limit ≡ longestMessage

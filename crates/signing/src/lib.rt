@@ -40,17 +40,17 @@ fn set_signed(m: &mut [u8])
     copy(m, 16, &flags);
 }
 
-// Zeros are taken in for the bytes that hold the signature, so that no byte of the message changes.
+// Of the header a copy is taken in, with zeros for the signature, so that no byte of the message changes.
 fn signature(key: &[u8], m: &[u8]) -> [u8; 16]
     requires { ⌜ (length (now key) ≡ 16) × (64 ≤ length (now m)) ⌝ }
     ensures { λ r. ⌜ r ≡ signatureUnder suite.cmac (now (key .entry)) (now (m .entry)) ⌝ }
 {
     let t = aes::table();
     let keys = aes::expand_key(bytes_16(key, 0));
-    let zeros = [0u8; 16];
-    let front = Mac::new().update(&t, keys, &m[..48]);
-    front
-        .update(&t, keys, &zeros)
+    let mut header = [0u8; 64];
+    copy(&mut header, 0, &m[..48]);
+    Mac::new()
+        .update(&t, keys, &header)
         .update(&t, keys, &m[64..])
         .finish(&t, keys)
 }
