@@ -1,29 +1,34 @@
-/*
- * Wrong libraries, to see that the tests notice them. Linked with --wrap, so that each call of the library comes here first; the
- * environment variable MUTANT names the one fault to make. scripts/mutants runs the tests for each.
- */
+#include "mutants.h"
+
 #include <stdlib.h>
 #include <string.h>
 
 #include "../include/smb3seal.h"
 #include "openssl_aead.h"
 
-static int fault(const char *name)
+int fault(const char *name)
 {
-    const char *chosen = getenv("MUTANT");
-    return chosen != NULL && strcmp(chosen, name) == 0;
+    static const char *chosen;
+    if (chosen == NULL) chosen = getenv("MUTANT");
+    if (chosen == NULL) chosen = "";
+    return strcmp(chosen, name) == 0;
 }
 
-/* A byte is read and written again: only where that is not allowed can it be noticed. */
-static void touch(const uint8_t *at)
+void touch(const void *at)
 {
     volatile uint8_t *byte = (volatile uint8_t *)at;
     *byte = *byte;
 }
 
-static uint8_t look(const uint8_t *at)
+void look(const void *at)
 {
-    return *(const volatile uint8_t *)at;
+    (void)*(const volatile uint8_t *)at;
+}
+
+void leave_plaintext(uint16_t dialect, uint16_t cipher, const uint8_t *key, uint8_t *message, size_t message_len)
+{
+    struct aead how = {key, message + 20, dialect == 0x0311 && cipher == 2 ? 12 : 11, message + 20, 32};
+    openssl_open(&how, message + 52, message_len - 52, message + 4);
 }
 
 uint32_t __real_smb3seal_derive(uint16_t, const uint8_t *, size_t, const uint8_t *, size_t, uint8_t *, size_t);
@@ -89,13 +94,6 @@ uint32_t __wrap_smb3seal_seal(uint16_t dialect, uint32_t encryption, uint16_t ci
     return r;
 }
 
-/* What a library that decrypts in place and forgets about it leaves behind. */
-static void leave_plaintext(uint16_t dialect, uint16_t cipher, const uint8_t *key, uint8_t *message, size_t message_len)
-{
-    struct aead how = {key, message + 20, dialect == 0x0311 && cipher == 2 ? 12 : 11, message + 20, 32};
-    openssl_open(&how, message + 52, message_len - 52, message + 4);
-}
-
 uint32_t __real_smb3seal_open(uint16_t, uint32_t, uint16_t, const uint8_t *, size_t, uint64_t, uint8_t *, size_t, uint64_t *);
 uint32_t __wrap_smb3seal_open(uint16_t dialect, uint32_t encryption, uint16_t cipher, const uint8_t *key, size_t key_len, uint64_t id,
                               uint8_t *message, size_t message_len, uint64_t *headers)
@@ -114,36 +112,5 @@ uint32_t __wrap_smb3seal_open(uint16_t dialect, uint32_t encryption, uint16_t ci
     if (fault("open: 16 for 15") && r == 15) return 16;
     if (fault("open: a refusal clears the count") && r != 0) *headers = 0;
     if (fault("open: the header is cleared") && r == 0) memset(message, 0, 52);
-    return r;
-}
-
-uint32_t __real_smb3seal_sign(const uint8_t *, size_t, uint8_t *, size_t);
-uint32_t __wrap_smb3seal_sign(const uint8_t *key, size_t key_len, uint8_t *message, size_t message_len)
-{
-    if (fault("sign: the message is taken as 32 bits long")) message_len = (uint32_t)message_len;
-    if (fault("sign: 12 before 11") && key_len == 16 && message_len < 64 && message_len > 0 && message[0] != 0xFE) return 12;
-    if (fault("sign: the key is written")) touch(key);
-    if (fault("sign: a byte behind the message is read")) look(message + message_len);
-    uint32_t r = __real_smb3seal_sign(key, key_len, message, message_len);
-    if (fault("sign: a refusal sets the flag") && r != 0 && message_len > 16) message[16] |= 8;
-    if (r != 0) return r;
-    if (fault("sign: the flag is not set")) message[16] &= (uint8_t)~8;
-    if (fault("sign: the other flags are cleared")) message[16] = 8;
-    if (fault("sign: a wrong bit")) message[63] ^= 1;
-    if (fault("sign: the old signature is signed too")) openssl_cmac(key, message, message_len, message + 48);
-    return r;
-}
-
-uint32_t __real_smb3seal_verify(const uint8_t *, size_t, const uint8_t *, size_t);
-uint32_t __wrap_smb3seal_verify(const uint8_t *key, size_t key_len, const uint8_t *message, size_t message_len)
-{
-    if (fault("verify: accepts everything")) return 0;
-    if (fault("verify: refuses everything")) return 25;
-    if (fault("verify: the message is written") && message_len > 48) touch(message + 48);
-    if (fault("verify: a byte before the message is read")) look(message - 1);
-    if (fault("verify: the last byte is left out") && message_len > 64) message_len--;
-    uint32_t r = __real_smb3seal_verify(key, key_len, message, message_len);
-    if (fault("verify: 25 before 24") && r == 24) return 25;
-    if (fault("verify: 24 for 12") && r == 12) return 24;
     return r;
 }

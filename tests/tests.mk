@@ -3,7 +3,8 @@
 
 TEST_HEADERS = $(wildcard tests/*.h) include/smb3seal.h $(BUILD)/smb3_vectors.h
 SHARED = check openssl_aead model call messages generate
-LIBRARY_TESTS = vectors_test numbers_test lengths_test walk_test bits_test random_test guard_test sign_test
+KEY_TESTS = vectors_test numbers_test lengths_test walk_test bits_test random_test guard_test
+LIBRARY_TESTS = $(KEY_TESTS) sign_test
 
 # Each program twice: as it is, and with the sanitizers.
 $(BUILD)/plain/%.o: tests/%.c $(TEST_HEADERS)
@@ -29,11 +30,12 @@ VALGRIND = valgrind --quiet --error-exitcode=1 --leak-check=full
 VALGRIND_CASES = 10000
 
 # Each program once more, with a library that can be made wrong.
-WRAPPED = derive fold fold_response seal open sign verify
+EXPORTS = derive fold fold_response seal open sign verify
+WRONG = $(BUILD)/plain/mutants.o $(BUILD)/plain/sign_mutants.o
 MUTANTS = $(LIBRARY_TESTS:%=$(BUILD)/mutants/%)
-$(MUTANTS): $(BUILD)/mutants/%: $(BUILD)/plain/%.o $(SHARED:%=$(BUILD)/plain/%.o) $(BUILD)/plain/mutants.o $(ARCHIVE)
+$(MUTANTS): $(BUILD)/mutants/%: $(BUILD)/plain/%.o $(SHARED:%=$(BUILD)/plain/%.o) $(WRONG) $(ARCHIVE)
 	@mkdir -p $(@D)
-	$(CC) $(WRAPPED:%=-Wl,--wrap=smb3seal_%) $^ -lcrypto -o $@
+	$(CC) $(EXPORTS:%=-Wl,--wrap=smb3seal_%) $^ -lcrypto -o $@
 
 outside: setup-test
 	@$(MAKE) --silent --no-print-directory NO_SETUP=1 outside-tests
@@ -73,7 +75,8 @@ mutants:
 	@scripts/test-with "the wrong libraries" libssl-dev -- $(AGAIN) run-mutants
 
 run-mutants: $(MUTANTS)
-	@scripts/mutants $(BUILD)/mutants tests/mutants.c
+	@scripts/mutants $(BUILD)/mutants tests/mutants.c vectors_test walk_test lengths_test bits_test guard_test numbers_test
+	@scripts/mutants $(BUILD)/mutants tests/sign_mutants.c sign_test guard_test
 
 tshark:
 	@scripts/test-with "tshark on a capture" libssl-dev tshark -- $(AGAIN) run-tshark
