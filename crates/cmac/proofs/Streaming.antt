@@ -1,18 +1,18 @@
 -- A code taken in pieces, wherever the cuts fall: the laws of `Running`.
 -- Assumes nothing.
 use mathlib.Core.Path.{_≡_, refl, sym, ap, ap₂, _∙_, subst}
-use mathlib.Core.List.{List, [], _++_, append-assoc, append-nil}
+use mathlib.Core.List.{List, [], _++_, append-assoc}
 use Prim.Native.Nat.{ℕ, _+_, _-_, _*_, _/_, _≤_, _<_, min}
-use native.Mathlib.Nat.{add-zero, le-refl, le-of-eq}
+use native.Mathlib.Nat.{add-zero, le-refl}
 use native.Mathlib.Omega.{arith}
 use lib.ListN.{length, take, drop, replicate, length-append, length-drop, take-append-drop}
-use lib.Seq.{paste, take-paste, take-length, length-take-le, take-at, drop-at}
+use lib.Seq.{paste, take-paste, take-length, length-take-le, drop-at}
 use Rattle.octets.specs.Blocks.{blockCount, overBlocks}
 use Rattle.octets.specs.Xor.{xor}
 use Rattle.octets.proofs.BlockLaws.{over-append}
 use Rattle.octets.proofs.Paste.{paste-all, part-all}
 use Rattle.cbc_mac.specs.CbcMac.{cbcMac}
-use Rattle.cmac.specs.Cmac.{blocksBefore, lastBlock, formatted, cmac}
+use Rattle.cmac.specs.Cmac.{blocksBefore, lastBlock, cmac}
 use Rattle.cmac.specs.Running.{Running}
 
 -- a buffer into which x was copied behind its first n bytes

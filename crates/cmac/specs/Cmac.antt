@@ -20,7 +20,7 @@ doubled x =
     let shifted = toBigEndian 16 (2 * bigEndian x) in
     cond (ltb (getD x 0 0) 128) shifted (xor shifted r128)
 
--- how many blocks stand before the last one, which is a short or an empty one only where no whole one is left: n - 1 in 6.2, step 2
+-- how many blocks come before the last, n - 1 in 6.2, step 2: the last has 1 to 16 bytes, or none where the message is empty
 abbrev pub blocksBefore : ℕ → ℕ
 blocksBefore len = (len - 1) / 16
 

@@ -1,9 +1,9 @@
 -- Signing and verifying: the checks are the lines that do not apply, and what signing leaves passes them all.
 -- Assumes nothing.
 use mathlib.Core.Path.{_≡_, refl, sym, ap, ap₂, _∙_}
-use mathlib.Core.Bool.{Bool, true, false, not}
-use mathlib.Core.List.{List, [], _∷_, _++_}
-use Prim.Native.Nat.{ℕ, zero, suc, _+_, _-_, _*_, _/_, _%_, _^_, _≤_, _<_}
+use mathlib.Core.Bool.{false, not}
+use mathlib.Core.List.{[], _∷_, _++_}
+use Prim.Native.Nat.{ℕ, zero, suc, _+_, _-_, _/_, _%_, _≤_, _<_}
 use native.Mathlib.Omega.{arith}
 use borrow.Author.Tests.{ltb-false, le-ltb, eqb-true, eq-eqb, not-false}
 use lib.Bits.{bitOr, or-shr, or-mod}
@@ -16,7 +16,7 @@ use Rattle.octets.proofs.NumberLaws.{length-toLittleEndian}
 use Rattle.octets.proofs.SameLaws.{same-self, same-equal}
 use Rattle.cmac.specs.Cmac as rfc4493
 use Rattle.protocol.specs.Bytes.{Bytes, numberAt}
-use Rattle.protocol.specs.Answer.{Answer, done, refused, Test}
+use Rattle.protocol.specs.Answer.{done}
 use Rattle.protocol.specs.Ciphers.{aes128}
 use Rattle.protocol.specs.InnerHeader.{isInnerHeader}
 use Rattle.protocol.specs.Signing.{isSigned, withSignedFlag, withSignature, signatureUnder, signedUnder}

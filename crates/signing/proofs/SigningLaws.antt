@@ -9,9 +9,8 @@ use lib.Dec.{eqb, ltb}
 use lib.ListN.{length, take, drop, replicate}
 use lib.Seq.{paste, take-length, take-all}
 use native.Mathlib.Nat.{le-of-eq}
-use Rattle.octets.specs.Numbers.{bytesAt, toLittleEndian}
+use Rattle.octets.specs.Numbers.{bytesAt}
 use Rattle.octets.specs.Same.{sameBytes}
-use Rattle.octets.proofs.NumberLaws.{length-toLittleEndian}
 use Rattle.protocol.specs.Bytes.{Bytes}
 use Rattle.protocol.specs.Answer.{Answer, done, refused, whenDone, Test, firstElse, firstOf}
 use Rattle.protocol.specs.Connection.{longestMessage}

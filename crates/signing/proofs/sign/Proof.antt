@@ -1,10 +1,8 @@
 -- Right because a refusal comes before a byte is written, and else the flag is set, and the signature of that message stored.
 -- Assumes nothing.
-use mathlib.Core.Path.{_≡_, sym, ap, _∙_}
 use native.Mathlib.Omega.{arith}
 use denote.Ref.{now}
-use lib.ListN.{length}
-use Rattle.signing.proofs.SigningLaws.{Passed, passed, left-alone, signed}
+use Rattle.signing.proofs.SigningLaws.{passed, left-alone, signed}
 use borrow.Author.Needs.{needs}
 use Rattle.signing.proofs.sign.Statement.{statement}
 use Rattle.signing.proofs.sign.Tie as tie

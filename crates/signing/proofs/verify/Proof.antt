@@ -1,11 +1,10 @@
 -- Right because each line is tested in its order, and the message is only read.
 -- Assumes nothing.
-use mathlib.Core.Path.{_≡_, sym, _∙_}
+use mathlib.Core.Path.{sym, _∙_}
 use borrow.Author.Tests.{not-true, not-false}
 use native.Mathlib.Omega.{arith}
 use denote.Ref.{now}
-use lib.ListN.{length}
-use Rattle.signing.proofs.SigningLaws.{Passed, passed, refused-first, not-signed, compared}
+use Rattle.signing.proofs.SigningLaws.{passed, refused-first, not-signed, compared}
 use borrow.Author.Needs.{needs}
 use Rattle.signing.proofs.verify.Statement.{statement}
 use Rattle.signing.proofs.verify.Tie as tie

@@ -1,7 +1,6 @@
 -- Right because the subkey of a whole block is K1, and that of a padded one K2.
 -- Assumes nothing.
 use mathlib.Core.Path.{ap, _∙_}
-use native.Mathlib.Omega.{arith}
 use denote.Ref.{now}
 use Rattle.aes.specs.BlockCipher.{blockCipher}
 use Rattle.cmac.specs.Cmac.{doubled}
