@@ -86,8 +86,8 @@ extern "C" {
  *                    deliver bytes whole and in order, so a refusal is a fault or an attack, never noise.
  * sealing, 1 to 16   A fault of the program: it made a message, or names a connection, that no peer would accept. Send nothing,
  *                    least of all the inner message in clear.
- * signing, 3, 11, 12 A fault of the program, too. Send nothing.
- * verifying, 3, 11, 12   The message is none of SMB 3: a server disconnects (MS-SMB2 3.3.5.2), a client discards it or disconnects.
+ * signing, 3 to 12   A fault of the program, too. Send nothing.
+ * verifying, 3 to 12 The message is none of SMB 3: a server disconnects (MS-SMB2 3.3.5.2), a client discards it or disconnects.
  * 17 to 40           As its line says, for both roles.
  *
  * An answer says nothing about keys or plaintext beyond the rule that was broken, and may be logged.
