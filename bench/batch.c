@@ -10,10 +10,11 @@ enum { LONGEST = 1048576, POOL = LONGEST + 131072, MOST = 1024, LINE = 64 };
 
 const struct task tasks[TASKS] = {
     AT_EACH_SIZE(CCM_SEAL), AT_EACH_SIZE(CCM_OPEN), AT_EACH_SIZE(GCM_SEAL), AT_EACH_SIZE(GCM_OPEN),
-    {DERIVE, 0},            AT_EACH_SIZE(FOLD),     AT_EACH_SIZE(SHA256),   AT_EACH_SIZE(CTR),
+    AT_EACH_SIZE(SIGN),     {DERIVE, 0},            AT_EACH_SIZE(FOLD),     AT_EACH_SIZE(SHA256),
+    AT_EACH_SIZE(CTR),
 };
 
-const char *const work_names[WORKS] = {"seal CCM",    "open CCM",      "seal GCM", "open GCM",
+const char *const work_names[WORKS] = {"seal CCM",    "open CCM",      "seal GCM", "open GCM", "sign (CMAC)",
                                        "derive keys", "fold (SHA-512)", "SHA-256",  "AES-128-CTR"};
 
 static const uint8_t key[KEY_BYTES] = {1, 2, 3}, counter_block[16] = {4, 5, 6, [15] = 1};
@@ -32,6 +33,7 @@ int batch_offered(const struct peer *p, enum work work)
     case CCM_OPEN: return p->ccm_open != NULL;
     case GCM_SEAL: return p->gcm_seal != NULL;
     case GCM_OPEN: return p->gcm_open != NULL;
+    case SIGN: return p->sign != NULL;
     case DERIVE: return p->derive != NULL;
     case FOLD: return p->fold != NULL;
     case SHA256: return p->sha256 != NULL;
@@ -47,6 +49,7 @@ static int run_one(const struct peer *p, uint8_t *piece)
     case CCM_OPEN: return p->ccm_open(key, piece, task.n);
     case GCM_SEAL: return p->gcm_seal(key, piece, task.n);
     case GCM_OPEN: return p->gcm_open(key, piece, task.n);
+    case SIGN: return p->sign(key, piece, task.n);
     case DERIVE: return p->derive(&derivation, piece);
     case FOLD: return p->fold(piece, text, task.n);
     case SHA256: return p->sha256(piece, text, task.n);
@@ -69,6 +72,7 @@ static size_t piece_bytes(struct task t)
     case DERIVE:
     case FOLD: return 64;
     case SHA256: return 32;
+    case SIGN:
     case CTR: return t.n;
     default: return TEXT_AT + t.n;
     }
@@ -104,6 +108,13 @@ static void write_message(uint8_t *m, size_t n, size_t i)
     memcpy(m + TEXT_AT + 40, header + 44, 8);
 }
 
+/* One SMB 2 message in clear. */
+static void write_clear(uint8_t *m, size_t n)
+{
+    memcpy(m, text, n);
+    memcpy(m, "\xFESMB", 4);
+}
+
 static int is_message(enum work work)
 {
     return work == CCM_SEAL || work == CCM_OPEN || work == GCM_SEAL || work == GCM_OPEN;
@@ -129,6 +140,7 @@ int batch_fill(struct task t)
     count = count == 0 ? 1 : count > MOST ? MOST : count;
     for (size_t i = 0; i < count * stride; i++) memory[i] = (uint8_t)(i * 31 + 1);
     for (size_t i = 0; i < count && is_message(t.work); i++) write_message(memory + i * stride, t.n, i);
+    for (size_t i = 0; i < count && t.work == SIGN; i++) write_clear(memory + i * stride, t.n);
     memcpy(before, memory, count * stride);
     if (t.work == CCM_OPEN) done &= keep_ours(CCM_SEAL, before);
     if (t.work == GCM_OPEN) done &= keep_ours(GCM_SEAL, before);

@@ -42,6 +42,14 @@ static int gcm_open(const uint8_t *key, uint8_t *m, size_t n)
                       m + TAG_AT, &tag_bytes, GCM_DECRYPT) == CRYPT_OK;
 }
 
+/* OMAC1, which is CMAC. */
+static int sign(const uint8_t *key, uint8_t *m, size_t n)
+{
+    unsigned long bytes = TAG_BYTES;
+    mark_signed(m);
+    return omac_memory(aes, key, KEY_BYTES, m, n, m + SIGNATURE_AT, &bytes) == CRYPT_OK;
+}
+
 static int derive(const struct derivation *d, uint8_t *keys)
 {
     for (int i = 0; i < 4; i++) {
@@ -80,6 +88,7 @@ const struct peer peer_libtomcrypt = {
     .ccm_open = ccm_open,
     .gcm_seal = gcm_seal,
     .gcm_open = gcm_open,
+    .sign = sign,
     .derive = derive,
     .fold = fold,
     .sha256 = sha256,

@@ -6,6 +6,7 @@
 #include <mbedtls/aes.h>
 #include <mbedtls/aesni.h>
 #include <mbedtls/ccm.h>
+#include <mbedtls/cmac.h>
 #include <mbedtls/gcm.h>
 #include <mbedtls/md.h>
 #include <mbedtls/sha256.h>
@@ -22,6 +23,7 @@ static mbedtls_aes_context aes;
 static mbedtls_ccm_context ccm;
 static mbedtls_gcm_context gcm;
 static mbedtls_md_context_t hmac;
+static mbedtls_cipher_context_t cmac;
 
 int mbedtls_aesni_has_support(unsigned int what)
 {
@@ -45,11 +47,14 @@ static int prepare(char *description, size_t room)
     mbedtls_ccm_init(&ccm);
     mbedtls_gcm_init(&gcm);
     mbedtls_md_init(&hmac);
+    mbedtls_cipher_init(&cmac);
     mbedtls_version_get_string(version);
     snprintf(description, room, "mbedTLS %s, AES-NI %s, PCLMULQDQ %s", version, extensions & MBEDTLS_AESNI_AES ? "yes" : "no",
              extensions & MBEDTLS_AESNI_CLMUL ? "yes" : "no");
     /* The library must have asked: otherwise the answer above means nothing. */
     return mbedtls_md_setup(&hmac, mbedtls_md_info_from_type(MBEDTLS_MD_SHA256), 1) == 0 &&
+           mbedtls_cipher_setup(&cmac, mbedtls_cipher_info_from_type(MBEDTLS_CIPHER_AES_128_ECB)) == 0 &&
+           mbedtls_cipher_cmac_starts(&cmac, key, 128) == 0 &&
            mbedtls_aes_setkey_enc(&aes, key, 128) == 0 && questions > 0;
 }
 
@@ -79,6 +84,14 @@ static int gcm_open(const uint8_t *key, uint8_t *m, size_t n)
     return mbedtls_gcm_setkey(&gcm, MBEDTLS_CIPHER_ID_AES, key, 128) == 0 &&
            mbedtls_gcm_auth_decrypt(&gcm, n, m + NONCE_AT, GCM_NONCE_BYTES, m + AAD_AT, AAD_BYTES, m + TAG_AT, TAG_BYTES,
                                     m + TEXT_AT, m + TEXT_AT) == 0;
+}
+
+/* As mbedtls_cipher_cmac does it, with the context that it would make and free in each call kept. */
+static int sign(const uint8_t *key, uint8_t *m, size_t n)
+{
+    mark_signed(m);
+    return mbedtls_cipher_setkey(&cmac, key, 128, MBEDTLS_ENCRYPT) == 0 && mbedtls_cipher_cmac_reset(&cmac) == 0 &&
+           mbedtls_cipher_cmac_update(&cmac, m, n) == 0 && mbedtls_cipher_cmac_finish(&cmac, m + SIGNATURE_AT) == 0;
 }
 
 static int derive(const struct derivation *d, uint8_t *keys)
@@ -126,6 +139,7 @@ const struct peer peer_mbedtls = {
     .ccm_open = ccm_open,
     .gcm_seal = gcm_seal,
     .gcm_open = gcm_open,
+    .sign = sign,
     .derive = derive,
     .fold = fold,
     .sha256 = sha256,

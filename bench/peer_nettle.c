@@ -1,5 +1,6 @@
 /* nettle. It chooses by the processor as it is loaded, or as NETTLE_FAT_OVERRIDE says ("none": no extension). */
 #include <nettle/ccm.h>
+#include <nettle/cmac.h>
 #include <nettle/ctr.h>
 #include <nettle/gcm.h>
 #include <nettle/hmac.h>
@@ -72,6 +73,16 @@ static int gcm_open(const uint8_t *key, uint8_t *m, size_t n)
     return memeql_sec(tag, m + TAG_AT, TAG_BYTES);
 }
 
+static int sign(const uint8_t *key, uint8_t *m, size_t n)
+{
+    struct cmac_aes128_ctx c;
+    mark_signed(m);
+    cmac_aes128_set_key(&c, key);
+    cmac_aes128_update(&c, n, m);
+    cmac_aes128_digest(&c, TAG_BYTES, m + SIGNATURE_AT);
+    return 1;
+}
+
 static int derive(const struct derivation *d, uint8_t *keys)
 {
     for (int i = 0; i < 4; i++) {
@@ -118,6 +129,7 @@ const struct peer peer_nettle = {
     .ccm_open = ccm_open,
     .gcm_seal = gcm_seal,
     .gcm_open = gcm_open,
+    .sign = sign,
     .derive = derive,
     .fold = fold,
     .sha256 = sha256,

@@ -9,7 +9,7 @@
 #include "peer.h"
 
 static EVP_CIPHER_CTX *ccm_sealing, *ccm_opening, *gcm, *counter;
-static EVP_MAC_CTX *hmac;
+static EVP_MAC_CTX *hmac, *cmac;
 static EVP_MD_CTX *hash;
 static EVP_MD *sha256_md, *sha512_md;
 
@@ -23,27 +23,29 @@ static EVP_CIPHER_CTX *cipher_context(const char *name, int encrypt, size_t nonc
     return c;
 }
 
-static EVP_MAC_CTX *hmac_context(void)
+/* A context for a code, with the digest or cipher that it is made with. */
+static EVP_MAC_CTX *mac_context(const char *name, const char *parameter, char *value)
 {
-    char digest[] = "SHA2-256";
-    OSSL_PARAM params[] = {OSSL_PARAM_construct_utf8_string(OSSL_MAC_PARAM_DIGEST, digest, 0), OSSL_PARAM_construct_end()};
-    EVP_MAC *mac = EVP_MAC_fetch(NULL, "HMAC", NULL);
+    OSSL_PARAM params[] = {OSSL_PARAM_construct_utf8_string(parameter, value, 0), OSSL_PARAM_construct_end()};
+    EVP_MAC *mac = EVP_MAC_fetch(NULL, name, NULL);
     EVP_MAC_CTX *c = mac == NULL ? NULL : EVP_MAC_CTX_new(mac);
     return c != NULL && EVP_MAC_CTX_set_params(c, params) == 1 ? c : NULL;
 }
 
 static int prepare(char *description, size_t room)
 {
+    static char digest[] = "SHA2-256", cipher[] = "AES-128-CBC";
     snprintf(description, room, "OpenSSL %s, %s", OpenSSL_version(OPENSSL_VERSION_STRING), OPENSSL_info(OPENSSL_INFO_CPU_SETTINGS));
     ccm_sealing = cipher_context("AES-128-CCM", 1, CCM_NONCE_BYTES);
     ccm_opening = cipher_context("AES-128-CCM", 0, CCM_NONCE_BYTES);
     gcm = cipher_context("AES-128-GCM", 1, GCM_NONCE_BYTES);
     counter = cipher_context("AES-128-CTR", 1, 0);
-    hmac = hmac_context();
+    hmac = mac_context("HMAC", OSSL_MAC_PARAM_DIGEST, digest);
+    cmac = mac_context("CMAC", OSSL_MAC_PARAM_CIPHER, cipher);
     hash = EVP_MD_CTX_new();
     sha256_md = EVP_MD_fetch(NULL, "SHA2-256", NULL);
     sha512_md = EVP_MD_fetch(NULL, "SHA2-512", NULL);
-    return ccm_sealing != NULL && ccm_opening != NULL && gcm != NULL && counter != NULL && hmac != NULL && hash != NULL &&
+    return ccm_sealing != NULL && ccm_opening != NULL && gcm != NULL && counter != NULL && hmac != NULL && cmac != NULL && hash != NULL &&
            sha256_md != NULL && sha512_md != NULL &&
            EVP_CIPHER_CTX_ctrl(ccm_sealing, EVP_CTRL_AEAD_SET_TAG, TAG_BYTES, NULL) == 1;
 }
@@ -86,6 +88,14 @@ static int gcm_open(const uint8_t *key, uint8_t *m, size_t n)
            EVP_DecryptUpdate(gcm, m + TEXT_AT, &out, m + TEXT_AT, (int)n) == 1 && EVP_DecryptFinal_ex(gcm, NULL, &out) == 1;
 }
 
+static int sign(const uint8_t *key, uint8_t *m, size_t n)
+{
+    size_t out;
+    mark_signed(m);
+    return EVP_MAC_init(cmac, key, KEY_BYTES, NULL) == 1 && EVP_MAC_update(cmac, m, n) == 1 &&
+           EVP_MAC_final(cmac, m + SIGNATURE_AT, &out, TAG_BYTES) == 1;
+}
+
 static int derive(const struct derivation *d, uint8_t *keys)
 {
     for (int i = 0; i < 4; i++) {
@@ -125,6 +135,7 @@ const struct peer peer_openssl = {
     .ccm_open = ccm_open,
     .gcm_seal = gcm_seal,
     .gcm_open = gcm_open,
+    .sign = sign,
     .derive = derive,
     .fold = fold,
     .sha256 = sha256,

@@ -1,4 +1,4 @@
-/* Ours: the five functions of smb3seal.h; SHA-256 and counter mode from the exports for tests. */
+/* Ours: the functions of smb3seal.h; SHA-256 and counter mode from the exports for tests. */
 #include <stdio.h>
 #include <string.h>
 
@@ -56,6 +56,11 @@ static int gcm_open(const uint8_t *key, uint8_t *m, size_t n)
     return open(SMB3SEAL_CIPHER_AES_128_GCM, key, m, n);
 }
 
+static int sign(const uint8_t *key, uint8_t *m, size_t n)
+{
+    return smb3seal_sign(key, KEY_BYTES, m, n) == SMB3SEAL_DONE;
+}
+
 static int derive(const struct derivation *d, uint8_t *keys)
 {
     return smb3seal_derive(SMB3SEAL_DIALECT_311, d->material, 16, d->chain, SMB3SEAL_CHAIN_BYTES, keys, SMB3SEAL_KEYS_BYTES) ==
@@ -85,6 +90,7 @@ const struct peer peer_smb3seal = {
     .ccm_open = ccm_open,
     .gcm_seal = gcm_seal,
     .gcm_open = gcm_open,
+    .sign = sign,
     .derive = derive,
     .fold = fold,
     .sha256 = sha256,

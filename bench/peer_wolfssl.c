@@ -2,6 +2,7 @@
 #include <wolfssl/options.h>
 #include <wolfssl/version.h>
 #include <wolfssl/wolfcrypt/aes.h>
+#include <wolfssl/wolfcrypt/cmac.h>
 #include <wolfssl/wolfcrypt/hmac.h>
 #include <wolfssl/wolfcrypt/sha256.h>
 #include <wolfssl/wolfcrypt/sha512.h>
@@ -50,6 +51,13 @@ static int gcm_open(const uint8_t *key, uint8_t *m, size_t n)
     return wc_AesGcmSetKey(&aes, key, KEY_BYTES) == 0 &&
            wc_AesGcmDecrypt(&aes, m + TEXT_AT, m + TEXT_AT, (word32)n, m + NONCE_AT, GCM_NONCE_BYTES, m + TAG_AT, TAG_BYTES,
                             m + AAD_AT, AAD_BYTES) == 0;
+}
+
+static int sign(const uint8_t *key, uint8_t *m, size_t n)
+{
+    word32 bytes = TAG_BYTES;
+    mark_signed(m);
+    return wc_AesCmacGenerate(m + SIGNATURE_AT, &bytes, m, (word32)n, key, KEY_BYTES) == 0;
 }
 
 static int derive(const struct derivation *d, uint8_t *keys)
@@ -102,6 +110,7 @@ const struct peer peer_wolfssl = {
     .ccm_open = ccm_open,
     .gcm_seal = gcm_seal,
     .gcm_open = gcm_open,
+    .sign = sign,
     .derive = derive,
     .fold = fold,
     .sha256 = sha256,

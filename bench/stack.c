@@ -112,6 +112,17 @@ static void fill_table(void)
     memcpy(table[RECORDS - 1].client_to_server, key, 16);
 }
 
+/* In clear: the message behind the room for a transform header. */
+static uint32_t sign(void)
+{
+    return smb3seal_sign(key, 16, message + HEADER, LONGEST);
+}
+
+static uint32_t verify(void)
+{
+    return smb3seal_verify(key, 16, message + HEADER, LONGEST);
+}
+
 /* The longest message, a chain of headers of 64 bytes each; and the table. */
 static void plain(void)
 {
@@ -159,6 +170,12 @@ static void sealed_with_bad_header(void)
     if (r != 0) exit(1);
 }
 
+static void signed_in_clear(void)
+{
+    plain();
+    if (sign() != SMB3SEAL_DONE) exit(1);
+}
+
 static const struct call calls[] = {
     {"derive, 3.0", plain, derive_300, 0, SMB3SEAL_DONE},
     {"derive, 3.1.1", plain, derive_311, 0, SMB3SEAL_DONE},
@@ -181,6 +198,8 @@ static const struct call calls[] = {
     {"table_open, GCM", sealed, table_open, GCM, SMB3SEAL_DONE},
     {"table_open, CCM, bad tag", sealed_with_bad_tag, table_open, CCM, SMB3SEAL_BAD_TAG},
     {"table_open, GCM, bad tag", sealed_with_bad_tag, table_open, GCM, SMB3SEAL_BAD_TAG},
+    {"sign", plain, sign, 0, SMB3SEAL_DONE},
+    {"verify", signed_in_clear, verify, 0, SMB3SEAL_DONE},
 };
 
 static void run_current(void)

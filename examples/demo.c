@@ -69,6 +69,32 @@ static void derive(const struct session *s, const uint8_t chain[SMB3SEAL_CHAIN_B
     }
 }
 
+/* ---- the one message in clear that is signed: the server's last word in the session setup */
+
+static void show_signature(const char *what, uint32_t number, const uint8_t *message, int equal)
+{
+    printf("   %s: %s, Flags %02X%02X%02X%02X, Signature ", what, smb3seal_text(number), message[16], message[17], message[18], message[19]);
+    hex(message + 48, 16);
+    printf("%s\n", verdict(number == SMB3SEAL_DONE && equal));
+}
+
+static void signature(const struct session *s, const uint8_t *keys)
+{
+    const struct signature *g = &signatures[s->signature];
+    const uint8_t *key = keys + SMB3SEAL_SIGNING_KEY;
+    uint8_t message[256];
+    chapter("3. The session setup response that ends the setup, signed under the new key");
+    memcpy(message, g->message.at, g->message.len);
+    uint32_t number = smb3seal_verify(key, SMB3SEAL_KEY_BYTES, message, g->message.len);
+    show_signature("client verifies", number, message, memcmp(message, g->message.at, g->message.len) == 0);
+    message[16] &= (uint8_t)~8;
+    memset(message + 48, 0, 16);
+    number = smb3seal_sign(key, SMB3SEAL_KEY_BYTES, message, g->message.len);
+    show_signature("server signs   ", number, message, memcmp(message, g->message.at, g->message.len) == 0);
+    message[g->message.len - 1] ^= 1;
+    printf("   its last bit changed: %s\n", smb3seal_text(smb3seal_verify(key, SMB3SEAL_KEY_BYTES, message, g->message.len)));
+}
+
 /* ---- sealed messages */
 
 static uint32_t open_it(const struct session *s, const uint8_t *key, uint8_t *message, size_t n, uint64_t *headers)
@@ -93,7 +119,7 @@ static void seal_again(const struct session *s, const uint8_t *key, uint64_t *co
 static void exchange(const struct session *s, const uint8_t *keys, uint8_t *message)
 {
     uint64_t counter = 0;
-    chapter("3. Sealed messages");
+    chapter("4. Sealed messages");
     for (const struct transform *t = transforms + s->transform; t < transforms + s->transform + s->transforms; t++) {
         int from_server = strstr(t->what, "response") != NULL;
         const uint8_t *key = keys + (from_server ? SMB3SEAL_SERVER_TO_CLIENT_KEY : SMB3SEAL_CLIENT_TO_SERVER_KEY);
@@ -128,7 +154,7 @@ static const struct field {
 
 static void show_fields(const uint8_t *message)
 {
-    chapter("4. The READ response, as opened: transform header, SMB 2 header, READ response");
+    chapter("5. The READ response, as opened: transform header, SMB 2 header, READ response");
     for (size_t i = 0; i < sizeof fields / sizeof fields[0]; i++) {
         const struct field *f = &fields[i];
         printf("   %3zu  %-22s", f->at, f->name);
@@ -150,7 +176,7 @@ static void damage(const struct session *s, const uint8_t *keys)
     memcpy(message, t->message.at, t->message.len);
     message[140] ^= 0x01;
     memcpy(lent, message, t->message.len);
-    chapter("5. The same response with one bit of byte 140 changed on the way");
+    chapter("6. The same response with one bit of byte 140 changed on the way");
     uint32_t number = open_it(s, keys + SMB3SEAL_SERVER_TO_CLIENT_KEY, message, t->message.len, &headers);
     int unchanged = memcmp(message, lent, t->message.len) == 0 && headers == 77;
     printf("   client opens: %u, %s\n", (unsigned)number, smb3seal_text(number));
@@ -167,6 +193,7 @@ int main(int argc, char **argv)
            s->cipher == SMB3SEAL_CIPHER_AES_128_GCM ? "GCM" : "CCM");
     fold_all(s, chain);
     derive(s, chain, keys);
+    signature(s, keys);
     exchange(s, keys, message);
     show_fields(message);
     damage(s, keys);

@@ -23,6 +23,11 @@
  * smb3seal_connection_derive, smb3seal_connection_seal and smb3seal_connection_open are the same three for a program that has its
  * connection as a struct.
  *
+ * A message in clear, where a session signs and does not seal, under its signing key (in a table, the record's `signing`):
+ *
+ *     smb3seal_sign            a message made ready to send
+ *     smb3seal_verify          a received message checked
+ *
  * No function allocates, locks, calls back or keeps anything outside of what it is lent: calls on different buffers may run in
  * different threads. Each is total: any numbers, any bytes, any table and any lengths get an answer.
  *
@@ -66,9 +71,9 @@ extern "C" {
  */
 
 #define SMB3SEAL_VERSION_MAJOR 0
-#define SMB3SEAL_VERSION_MINOR 2
+#define SMB3SEAL_VERSION_MINOR 3
 #define SMB3SEAL_VERSION_PATCH 0
-#define SMB3SEAL_VERSION "0.2.0"
+#define SMB3SEAL_VERSION "0.3.0"
 
 /* ---- dialects and ciphers, as MS-SMB2 numbers them */
 
@@ -87,14 +92,14 @@ extern "C" {
 /* ---- lengths */
 
 #define SMB3SEAL_HEADER_BYTES 52         /* the transform header, before every sealed message */
-#define SMB3SEAL_KEY_BYTES 16            /* a cipher key */
+#define SMB3SEAL_KEY_BYTES 16            /* a cipher or signing key */
 #define SMB3SEAL_CHAIN_BYTES 64          /* a preauthentication integrity hash value */
 #define SMB3SEAL_KEYS_BYTES 64           /* the four keys that smb3seal_derive writes */
-#define SMB3SEAL_LONGEST_MESSAGE 1048576 /* bytes behind the transform header, and of a message that is folded */
+#define SMB3SEAL_LONGEST_MESSAGE 1048576 /* bytes behind the transform header, and of a message that is folded, signed or verified */
 
 /* ---- where smb3seal_derive writes each key */
 
-#define SMB3SEAL_SIGNING_KEY 0
+#define SMB3SEAL_SIGNING_KEY 0           /* both ends sign and verify with it */
 #define SMB3SEAL_APPLICATION_KEY 16
 #define SMB3SEAL_CLIENT_TO_SERVER_KEY 32 /* a client seals with it, a server opens with it */
 #define SMB3SEAL_SERVER_TO_CLIENT_KEY 48 /* a server seals with it, a client opens with it */
@@ -109,6 +114,8 @@ extern "C" {
  *                    deliver bytes whole and in order, so a refusal is a fault or an attack, never noise.
  * sealing, 1 to 16   A fault of the program: it made a message, or names a connection or a session, that no peer would accept. Send
  *                    nothing, least of all the inner message in clear.
+ * signing, 3 to 12   A fault of the program, too. Send nothing.
+ * verifying, 3 to 12 The message is none of SMB 3: a server disconnects (MS-SMB2 3.3.5.2), a client discards it or disconnects.
  * 17 to 40           As its line says, for both roles.
  *
  * An answer says nothing about keys or plaintext beyond the rule that was broken, and may be logged.
@@ -121,7 +128,7 @@ extern "C" {
 
 /* The message as it arrived, before any decryption. */
 #define SMB3SEAL_TOO_SHORT 2     /* the whole message has at most 52 bytes */
-#define SMB3SEAL_TOO_LONG 3      /* more than 1,048,576 bytes behind the transform header */
+#define SMB3SEAL_TOO_LONG 3      /* more than 1,048,576 bytes behind the transform header, or in a message to sign or verify */
 #define SMB3SEAL_NOT_TRANSFORM 4 /* the message does not begin FD 53 4D 42: it is not sealed, so the program should not open it */
 #define SMB3SEAL_BAD_FLAGS 5     /* the transform header's Flags are not 0x0001 */
 #define SMB3SEAL_OTHER_SESSION 6 /* the transform header's SessionId is not the session's; with a session table, no used record has the id */
@@ -134,9 +141,9 @@ extern "C" {
 #define SMB3SEAL_BAD_TAG 9   /* the tag differs: the message, its header or the key is not the sender's */
 #define SMB3SEAL_BAD_SIZE 10 /* OriginalMessageSize differs from the number of bytes behind the header */
 
-/* The inner message. On opening, the tag was right: the peer holds the key and made this message itself. */
-#define SMB3SEAL_INNER_TOO_SHORT 11 /* the inner message has less than 64 bytes */
-#define SMB3SEAL_NOT_HEADER 12      /* an inner header does not begin FE 53 4D 42 */
+/* The inner message, or (11, 12) the one to sign or verify. On opening, the tag was right: the peer holds the key and made it itself. */
+#define SMB3SEAL_INNER_TOO_SHORT 11 /* the inner message, or the one to sign or verify, has less than 64 bytes */
+#define SMB3SEAL_NOT_HEADER 12      /* an inner header, or the message to sign or verify, does not begin FE 53 4D 42 */
 #define SMB3SEAL_FIRST_RELATED 13   /* the first inner header has the related flag */
 #define SMB3SEAL_INNER_SESSION 14   /* an inner SessionId differs from the session's, and its header is the first or not related */
 #define SMB3SEAL_NEXT_OUTSIDE 15    /* NextCommand is under 64, or the next header is not wholly inside */
@@ -156,6 +163,10 @@ extern "C" {
 
 /* Folding. Disconnect: no negotiate or session setup message has such a length. */
 #define SMB3SEAL_FOLD_LENGTH 23 /* the message has under 64 or over 1,048,576 bytes */
+
+/* Verifying. A server fails the request with STATUS_ACCESS_DENIED, a client discards the message; both may disconnect. */
+#define SMB3SEAL_NOT_SIGNED 24    /* the signed flag (0x00000008 of Flags, bytes 16..20) is missing */
+#define SMB3SEAL_BAD_SIGNATURE 25 /* the signature (bytes 48..64) differs: the message or the key is not the sender's */
 
 /* Lengths that are fixed. A fault of the program, on every dialect. */
 #define SMB3SEAL_BAD_LENGTH 40 /* a key is not 16, a chain value not 64, or the place for the keys not 64 bytes long */
@@ -234,6 +245,37 @@ uint32_t smb3seal_seal(uint16_t dialect, uint32_t encryption, uint16_t cipher, c
  */
 uint32_t smb3seal_open(uint16_t dialect, uint32_t encryption, uint16_t cipher, const uint8_t *key, size_t key_len,
                        uint64_t session_id, uint8_t *message, size_t message_len, uint64_t *headers);
+
+/*
+ * Signs a message in clear in place: sets SMB2_FLAGS_SIGNED (0x00000008) among the Flags at 16..20, whose other bits stay, and writes to
+ * Signature, at 48..64, AES-128-CMAC (RFC 4493) of the whole message with these 16 bytes taken as zeros. Nothing else changes.
+ *
+ * key      reads: SMB3SEAL_KEY_BYTES, the session's signing key (SMB3SEAL_SIGNING_KEY)
+ * message  reads and writes: one message from its SMB 2 header on, without the transport's length field. Each message of a compound is
+ *          handed over by itself, with its padding: the NextCommand bytes from its header on, and the last one to the end
+ *
+ * Sign last: a change of any other byte afterwards, NextCommand and the padding included, makes the signature wrong. A message that is
+ * sealed is not signed.
+ *
+ * Answers 0, or 40, 3, 11, 12.
+ */
+uint32_t smb3seal_sign(const uint8_t *key, size_t key_len, uint8_t *message, size_t message_len);
+
+/*
+ * Verifies a message in clear, and changes no byte of it: 0 exactly if the signed flag is there and the signature is the one that
+ * smb3seal_sign would write. What is signed under a key verifies under that key.
+ *
+ * key      reads: SMB3SEAL_KEY_BYTES, the session's signing key
+ * message  reads: one message as for smb3seal_sign, of a compound each by itself with its padding
+ *
+ * Which messages must be signed, the caller knows (MS-SMB2 3.2.5.1.3 and 3.3.5.2.4). A server does not sign interim responses (Status
+ * STATUS_PENDING) and break notices (MessageId all ones), so a client that is answered 24 or 25 for these goes on; an error response may
+ * carry the request's flag and signature, which is 25. A message that arrived sealed is not verified: its tag has been compared.
+ * A signed message that arrives twice verifies twice: MessageId is for the caller to check.
+ *
+ * Answers 0, or 40, 3, 11, 12, 24, 25.
+ */
+uint32_t smb3seal_verify(const uint8_t *key, size_t key_len, const uint8_t *message, size_t message_len);
 
 /*
  * ---- the connection

@@ -13,7 +13,7 @@ static inline const char *smb3seal_text(uint32_t number)
     case SMB3SEAL_DONE: return "done";
     case SMB3SEAL_NOT_ENCRYPTING: return "this connection does not encrypt: dialect, setting or cipher";
     case SMB3SEAL_TOO_SHORT: return "the message is not longer than a transform header";
-    case SMB3SEAL_TOO_LONG: return "the message is longer than 1,048,576 bytes behind its transform header";
+    case SMB3SEAL_TOO_LONG: return "the message is longer than 1,048,576 bytes, those behind its transform header if it has one";
     case SMB3SEAL_NOT_TRANSFORM: return "the message does not begin with a transform header";
     case SMB3SEAL_BAD_FLAGS: return "the transform header's Flags are not 0x0001";
     case SMB3SEAL_OTHER_SESSION: return "the transform header names another session, or the table has no session of this id";
@@ -21,8 +21,8 @@ static inline const char *smb3seal_text(uint32_t number)
     case SMB3SEAL_GUEST: return "the session is guest or anonymous";
     case SMB3SEAL_BAD_TAG: return "the tag differs";
     case SMB3SEAL_BAD_SIZE: return "OriginalMessageSize differs from the message's size";
-    case SMB3SEAL_INNER_TOO_SHORT: return "the inner message is shorter than a header";
-    case SMB3SEAL_NOT_HEADER: return "an inner header does not begin FE 53 4D 42";
+    case SMB3SEAL_INNER_TOO_SHORT: return "the inner message, or the one to sign or verify, is shorter than a header";
+    case SMB3SEAL_NOT_HEADER: return "an inner header, or the message to sign or verify, does not begin FE 53 4D 42";
     case SMB3SEAL_FIRST_RELATED: return "the first inner header has the related flag";
     case SMB3SEAL_INNER_SESSION: return "an inner header names another session";
     case SMB3SEAL_NEXT_OUTSIDE: return "NextCommand points into its own header or past the end";
@@ -34,6 +34,8 @@ static inline const char *smb3seal_text(uint32_t number)
     case SMB3SEAL_ID_TAKEN: return "a session with this id is in the table";
     case SMB3SEAL_TABLE_FULL: return "the session table is full";
     case SMB3SEAL_FOLD_LENGTH: return "a message to fold has under 64 or over 1,048,576 bytes";
+    case SMB3SEAL_NOT_SIGNED: return "the message is not signed";
+    case SMB3SEAL_BAD_SIGNATURE: return "the signature differs";
     case SMB3SEAL_BAD_LENGTH: return "a lent key, chain value or place for keys has the wrong length";
     default: return "unknown number";
     }

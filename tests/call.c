@@ -37,11 +37,11 @@ struct outcome {
 static struct outcome lend(const struct call *c, const struct lender *lender)
 {
     struct outcome o;
-    int folds = c->function == FOLD || c->function == FOLD_RESPONSE;
+    int folds = c->function == FOLD || c->function == FOLD_RESPONSE, writes = !folds && c->function != VERIFY;
     o.answer = UINT32_MAX;
     o.key = lender->lend(KEY, c->key.at, c->key.len, 0);
     o.chain = lender->lend(CHAIN, c->chain.at, c->chain.len, folds);
-    o.message = lender->lend(MESSAGE, c->message.at, c->message.len, !folds);
+    o.message = lender->lend(MESSAGE, c->message.at, c->message.len, writes);
     o.counter = lender->lend(COUNTER, &c->counter, sizeof c->counter, 1);
     o.headers = lender->lend(HEADERS, &c->headers, sizeof c->headers, 1);
     o.folded = lender->lend(FOLDED, &c->folded, sizeof c->folded, 1);
@@ -58,17 +58,20 @@ static void take_back(struct outcome *o, const struct lender *lender)
     lender->take_back(FOLDED, o->folded);
 }
 
-/* The five functions, as the library and as the model have them. */
+/* The functions, as the library and as the model have them. */
 struct functions {
     uint32_t (*derive)(uint16_t, const uint8_t *, size_t, const uint8_t *, size_t, uint8_t *, size_t);
     uint32_t (*fold)(uint8_t *, size_t, const uint8_t *, size_t);
     uint32_t (*fold_response)(uint8_t *, size_t, const uint8_t *, size_t, uint32_t *);
     uint32_t (*seal)(uint16_t, uint32_t, uint16_t, const uint8_t *, size_t, uint64_t, uint64_t *, uint8_t *, size_t, uint64_t *);
     uint32_t (*open)(uint16_t, uint32_t, uint16_t, const uint8_t *, size_t, uint64_t, uint8_t *, size_t, uint64_t *);
+    uint32_t (*sign)(const uint8_t *, size_t, uint8_t *, size_t);
+    uint32_t (*verify)(const uint8_t *, size_t, const uint8_t *, size_t);
 };
 
-static const struct functions library = {smb3seal_derive, smb3seal_fold, smb3seal_fold_response, smb3seal_seal, smb3seal_open};
-static const struct functions model = {model_derive, model_fold, model_fold_response, model_seal, model_open};
+static const struct functions library = {smb3seal_derive, smb3seal_fold, smb3seal_fold_response, smb3seal_seal,
+                                         smb3seal_open,   smb3seal_sign, smb3seal_verify};
+static const struct functions model = {model_derive, model_fold, model_fold_response, model_seal, model_open, model_sign, model_verify};
 
 static uint32_t perform(const struct functions *by, const struct call *c, struct outcome *o)
 {
@@ -78,13 +81,15 @@ static uint32_t perform(const struct functions *by, const struct call *c, struct
     case FOLD: return by->fold(o->chain, chain, o->message, n);
     case FOLD_RESPONSE: return by->fold_response(o->chain, chain, o->message, n, o->folded);
     case SEAL: return by->seal(c->dialect, c->encryption, c->cipher, o->key, key, c->id, o->counter, o->message, n, o->headers);
+    case SIGN: return by->sign(o->key, key, o->message, n);
+    case VERIFY: return by->verify(o->key, key, o->message, n);
     default: return by->open(c->dialect, c->encryption, c->cipher, o->key, key, c->id, o->message, n, o->headers);
     }
 }
 
 static _Noreturn void wrong(const struct call *c, uint32_t answer, const char *what, unsigned long long detail)
 {
-    static const char *const names[] = {"derive", "fold", "fold_response", "seal", "open"};
+    static const char *const names[] = {"derive", "fold", "fold_response", "seal", "open", "sign", "verify"};
     fprintf(stderr, "smb3seal_%s, lent %zu bytes, answers %u\n", names[c->function], c->message.len, answer);
     fail(what, detail);
 }

@@ -1,5 +1,5 @@
 /*
- * One call of one of the five functions, as plain data; and the comparison of the library with the model over it.
+ * One call of one of the functions, as plain data; and the comparison of the library with the model over it.
  */
 #ifndef CALL_H
 #define CALL_H
@@ -7,7 +7,7 @@
 #include <stddef.h>
 #include <stdint.h>
 
-enum function { DERIVE, FOLD, FOLD_RESPONSE, SEAL, OPEN, FUNCTIONS };
+enum function { DERIVE, FOLD, FOLD_RESPONSE, SEAL, OPEN, SIGN, VERIFY, FUNCTIONS };
 
 struct lent {
     uint8_t *at;
@@ -19,7 +19,7 @@ struct call {
     uint16_t dialect, cipher;
     uint32_t encryption;
     uint64_t id;
-    struct lent key; /* of the cipher; or the key material */
+    struct lent key; /* of the cipher or the signature; or the key material */
     struct lent chain;
     struct lent message; /* or the place for the four keys */
     uint64_t counter, headers;

@@ -1,11 +1,11 @@
 /*
  * Writes a capture for tshark: four connections with the published negotiation and session setup, and then messages that the
- * library sealed under the keys that it derived. 3.1.1 with GCM and with CCM are the published sessions, in which the published
+ * library sealed under the keys that it derived, and others in clear that it signed. 3.1.1 with GCM and with CCM are the published sessions, in which the published
  * sealed messages are sent too; for 3.0 and 3.0.2 the dialect in the negotiate response and the session's id are replaced. On 3.0.2
  * the library is asked for cipher 2, and must seal with CCM all the same.
  *
- * Usage: capture PCAP LIST. The list has a line for each session (its id as on the wire, its session key) and one for each sealed
- * message (its inner bytes), in hexadecimal.
+ * Usage: capture PCAP LIST. The list has a line for each session (its id as on the wire, its session key), one for each sealed message
+ * (its inner bytes), in hexadecimal, and one for each message in clear (good or bad: whether its signature is right).
  */
 #include <stdio.h>
 #include <stdlib.h>
@@ -166,6 +166,29 @@ static void talk(struct conversation *s)
     }
 }
 
+/*
+ * Signed messages in clear: as the library signed them, and one of them changed on the way. No compound: tshark takes all of one for
+ * its first message.
+ */
+static void sign_and_send(struct conversation *s, enum direction d, uint8_t *message, size_t n, int change)
+{
+    const uint8_t *key = s->keys + SMB3SEAL_SIGNING_KEY;
+    expect(smb3seal_sign(key, 16, message, n) == 0 && smb3seal_verify(key, 16, message, n) == 0, "signing", n);
+    if (change) message[n - 1] ^= 1;
+    fprintf(list, "%s\n", change ? "bad" : "good");
+    send(s, d, message, n);
+}
+
+static void talk_in_clear(struct conversation *s)
+{
+    static uint8_t message[LONGEST];
+    for (size_t i = 0; i < 40; i++) {
+        enum direction d = i % 2 == 0 ? REQUEST : RESPONSE;
+        sign_and_send(s, d, message, put_echo(message, s, d, 400 + i / 2, HEADER + 4 + i), i == 20);
+    }
+    sign_and_send(s, REQUEST, message, put_echo(message, s, REQUEST, 500, 60000), 0);
+}
+
 /* The published messages of this session: tshark must read them too, or the capture is at fault. */
 static void send_published(struct conversation *s)
 {
@@ -192,6 +215,7 @@ int main(int argc, char **argv)
         set_up(&sessions[i]);
         send_published(&sessions[i]);
         talk(&sessions[i]);
+        talk_in_clear(&sessions[i]);
     }
     if (fclose(pcap) != 0 || fclose(list) != 0) return 2;
     return 0;

@@ -1,14 +1,15 @@
 /*
- * libFuzzer: its bytes become a call of one of the five functions, and the library must do what the model does. The library's archive
+ * libFuzzer: its bytes become a call of one of the functions, and the library must do what the model does. The library's archive
  * is not instrumented; the model is, so that its branches guide the search.
  *
- * The first byte says which function, and for opening whether the bytes are the message as it arrives or are first given a right tag:
- * otherwise no search would come behind it. Then follow fixed fields, then the message.
+ * The first byte says which function, and for opening and verifying whether the bytes are the message as it arrives or are first given
+ * a right tag or signature: otherwise no search would come behind it. Then follow fixed fields, then the message.
  */
 #include <string.h>
 
 #include "check.h"
 #include "messages.h"
+#include "model.h"
 
 enum { FIXED = 1 + 2 + 2 + 1 + 8 + 8 + 1, MOST = 4096 };
 
@@ -85,6 +86,8 @@ int LLVMFuzzerTestOneInput(const uint8_t *data, size_t size)
     choose_lengths(&c, lengths);
     choose_id(&c, choice);
     if (c.function == OPEN && kind & 0x80) give_tag(&c, choice);
+    if (c.function == VERIFY && kind & 0x80 && choice & 1) model_sign(c.key.at, 16, c.message.at, c.message.len);
+    if (c.function == VERIFY && choice & 2 && c.message.len > 0) c.message.at[choice % c.message.len] ^= 8;
     compare(&c, &heap);
     return 0;
 }

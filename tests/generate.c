@@ -4,6 +4,7 @@
 
 #include "check.h"
 #include "messages.h"
+#include "model.h"
 
 /* ---- numbers and lengths: mostly right or near the right ones */
 
@@ -185,9 +186,24 @@ void generate_message(struct call *c)
     if (c->function == OPEN) make_opening(c);
 }
 
+/* A message in clear, as it is or signed and then changed here and there. */
+static void make_signing(struct call *c)
+{
+    c->message.len = any_inner(c->message.at, c->id).n;
+    if (chance(10)) c->message.len = below(HEADER + 2);
+    if (c->function == SIGN || chance(10)) return;
+    model_sign(c->key.at, 16, c->message.at, c->message.len);
+    for (int left = 2; left > 0 && chance(40); left--) {
+        if (chance(30)) c->message.at[16] ^= 8;
+        else flip(chance(50) ? c->message.at : c->message.at + 48, chance(50) ? 16 : 4);
+    }
+    if (chance(10)) c->message.len += below(3);
+}
+
 struct call generate(void)
 {
-    static const enum function functions[] = {DERIVE, FOLD, FOLD_RESPONSE, SEAL, SEAL, SEAL, OPEN, OPEN, OPEN, OPEN, OPEN, OPEN};
+    static const enum function functions[] = {DERIVE, FOLD, FOLD_RESPONSE, SEAL, SEAL, SEAL,   OPEN,   OPEN,
+                                              OPEN,   OPEN, OPEN,          OPEN, SIGN, VERIFY, VERIFY, VERIFY};
     struct call c = plain_call(functions[below(COUNT(functions))], any_cipher(), HEADER);
     c.dialect = any_dialect();
     c.encryption = any_switch();
@@ -199,6 +215,7 @@ struct call generate(void)
     fill(c.chain.at, 128);
     if (c.function == SEAL || c.function == OPEN) generate_message(&c);
     if (c.function == FOLD || c.function == FOLD_RESPONSE) make_folding(&c);
+    if (c.function == SIGN || c.function == VERIFY) make_signing(&c);
     if (c.function == DERIVE) make_derivation(&c);
     else c.key.len = any_length_like(16);
     c.chain.len = any_length_like(64);

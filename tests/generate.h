@@ -6,7 +6,7 @@
 
 #include "call.h"
 
-/* A call of one of the five functions. Its buffers are good until the next one. */
+/* A call of one of the functions. Its buffers are good until the next one. */
 struct call generate(void);
 
 /* Parts of it. Numbers and lengths: mostly right or near the right ones. */

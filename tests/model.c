@@ -7,7 +7,7 @@
 
 #include "openssl_aead.h"
 
-enum { TRANSFORM = 52, HEADER = 64, LIMIT = 1048576, RELATED = 4 };
+enum { TRANSFORM = 52, HEADER = 64, LIMIT = 1048576, RELATED = 4, SIGNED = 8 };
 
 static uint64_t little_endian(const uint8_t *at, size_t n)
 {
@@ -202,5 +202,42 @@ uint32_t model_open(uint16_t dialect, uint32_t encryption, uint16_t cipher, cons
         *headers = visited;
     }
     free(plaintext);
+    return r;
+}
+
+/* ---- signing and verifying */
+
+/* 3, 11 and 12, and 40 before them. */
+static uint32_t clear_tests(size_t key_len, const uint8_t *message, size_t message_len)
+{
+    if (key_len != 16) return 40;
+    if (message_len > LIMIT) return 3;
+    if (message_len < HEADER) return 11;
+    return begins_header(message) ? 0 : 12;
+}
+
+uint32_t model_sign(const uint8_t *key, size_t key_len, uint8_t *message, size_t message_len)
+{
+    uint8_t code[16];
+    uint32_t r = clear_tests(key_len, message, message_len);
+    if (r != 0) return r;
+    put_little_endian(message + 16, little_endian(message + 16, 4) | SIGNED, 4);
+    memset(message + 48, 0, 16);
+    openssl_cmac(key, message, message_len, code);
+    memcpy(message + 48, code, 16);
+    return 0;
+}
+
+/* What is signed again is the same message, if it was signed. */
+uint32_t model_verify(const uint8_t *key, size_t key_len, const uint8_t *message, size_t message_len)
+{
+    uint32_t r = clear_tests(key_len, message, message_len);
+    if (r != 0) return r;
+    if ((little_endian(message + 16, 4) & SIGNED) == 0) return 24;
+    uint8_t *again = malloc(message_len);
+    if (again == NULL) abort();
+    memcpy(again, message, message_len);
+    if (model_sign(key, key_len, again, message_len) != 0 || memcmp(again, message, message_len) != 0) r = 25;
+    free(again);
     return r;
 }

@@ -1,6 +1,6 @@
 /*
  * The rules of the rules a second time, on top of OpenSSL: written from the papers, and sharing nothing with the library but this
- * shape of the five functions. include/smb3seal.h says what they take.
+ * shape of the functions. include/smb3seal.h says what they take.
  */
 #ifndef MODEL_H
 #define MODEL_H
@@ -16,6 +16,8 @@ uint32_t model_seal(uint16_t dialect, uint32_t encryption, uint16_t cipher, cons
                     uint64_t *counter, uint8_t *message, size_t message_len, uint64_t *headers);
 uint32_t model_open(uint16_t dialect, uint32_t encryption, uint16_t cipher, const uint8_t *key, size_t key_len, uint64_t session_id,
                     uint8_t *message, size_t message_len, uint64_t *headers);
+uint32_t model_sign(const uint8_t *key, size_t key_len, uint8_t *message, size_t message_len);
+uint32_t model_verify(const uint8_t *key, size_t key_len, const uint8_t *message, size_t message_len);
 
 /* Parts of sealing and opening, between which the session table has tests of its own: 40, 1, 2 and 3; then 4 and 5; then the id. */
 uint32_t model_first_tests(uint16_t dialect, uint32_t encryption, uint16_t cipher, size_t key_len, size_t message_len);

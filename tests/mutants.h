@@ -1,6 +1,6 @@
 /*
- * Wrong libraries, to see that the tests notice them. Linked with --wrap, so that each call of the library comes to mutants.c or
- * table_mutants.c first; the environment variable MUTANT names the one fault to make. scripts/mutants runs the tests for each.
+ * Wrong libraries, to see that the tests notice them. Linked with --wrap, so that each call of the library comes to mutants.c,
+ * sign_mutants.c or table_mutants.c first; the environment variable MUTANT names the one fault to make. scripts/mutants runs the tests for each.
  */
 #ifndef MUTANTS_H
 #define MUTANTS_H

@@ -1,6 +1,8 @@
 #include "openssl_aead.h"
 
+#include <openssl/core_names.h>
 #include <openssl/evp.h>
+#include <openssl/params.h>
 #include <stdio.h>
 #include <stdlib.h>
 
@@ -47,4 +49,23 @@ int openssl_open(const struct aead *how, uint8_t *text, size_t n, const uint8_t 
     if (how->nonce_len == 12) right = right && EVP_CipherFinal_ex(c, text + out, &out) == 1;
     EVP_CIPHER_CTX_free(c);
     return right;
+}
+
+/* One context serves all calls: to fetch the algorithm each time would take longer than the code. */
+void openssl_cmac(const uint8_t key[16], const uint8_t *message, size_t n, uint8_t code[16])
+{
+    static EVP_MAC_CTX *c;
+    char cipher[] = "AES-128-CBC";
+    const OSSL_PARAM params[] = {OSSL_PARAM_construct_utf8_string(OSSL_MAC_PARAM_CIPHER, cipher, 0), OSSL_PARAM_construct_end()};
+    size_t len = 0;
+    if (c == NULL) {
+        EVP_MAC *mac = EVP_MAC_fetch(NULL, "CMAC", NULL);
+        c = EVP_MAC_CTX_new(mac);
+        EVP_MAC_free(mac);
+        need(c != NULL, "make a context");
+    }
+    int ok = EVP_MAC_init(c, key, 16, params);
+    ok &= EVP_MAC_update(c, n > 0 ? message : nothing, n);
+    ok &= EVP_MAC_final(c, code, &len, 16);
+    need(ok == 1 && len == 16, "make a code");
 }

@@ -1,5 +1,6 @@
 /*
- * AES-128-CCM and AES-128-GCM by OpenSSL, in place, with tags of 16 bytes. A nonce of 11 bytes means CCM, one of 12 GCM.
+ * AES-128-CCM and AES-128-GCM by OpenSSL, in place, with tags of 16 bytes. A nonce of 11 bytes means CCM, one of 12 GCM. And its
+ * AES-128-CMAC.
  */
 #ifndef OPENSSL_AEAD_H
 #define OPENSSL_AEAD_H
@@ -19,5 +20,7 @@ void openssl_seal(const struct aead *how, uint8_t *text, size_t n, uint8_t *tag)
 
 /* 1 where the tag is right and the text is now the plaintext; 0 where it is not, and then the text is of no use. */
 int openssl_open(const struct aead *how, uint8_t *text, size_t n, const uint8_t *tag);
+
+void openssl_cmac(const uint8_t key[16], const uint8_t *message, size_t n, uint8_t code[16]);
 
 #endif

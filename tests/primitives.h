@@ -23,6 +23,9 @@ uint32_t primitives_kdf(const uint8_t *key, size_t key_len, const uint8_t *label
 /* key: 16 bytes, prefix: 12; first counter at most 2^16; text in place, below 2^32 - 2^17 bytes */
 uint32_t primitives_ctr(const uint8_t *key, size_t key_len, const uint8_t *prefix, size_t prefix_len, uint16_t first,
                         uint8_t *text, size_t text_len);
+/* key and code: 16 bytes; the message is front and then back */
+uint32_t primitives_cmac(const uint8_t *key, size_t key_len, const uint8_t *front, size_t front_len, const uint8_t *back,
+                         size_t back_len, uint8_t *code, size_t code_len);
 /* key: 16 bytes, nonce: 11, aad: 32, tag: 16; text in place, below 2^32 - 16 bytes */
 uint32_t primitives_ccm_seal(const uint8_t *key, size_t key_len, const uint8_t *nonce, size_t nonce_len,
                              const uint8_t *aad, size_t aad_len, uint8_t *text, size_t text_len, uint8_t *tag,

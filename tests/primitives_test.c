@@ -46,6 +46,25 @@ static void codes(size_t key_len, size_t n)
            "HMAC-SHA-256", n);
 }
 
+/* CMAC of a message in two pieces: the cut at a place of its own, and where it may matter. */
+static void cmac_codes(size_t n)
+{
+    static uint8_t message[LONGEST];
+    uint8_t key[16], ours[17], theirs[16], before[17];
+    size_t cuts[] = {0, n, n / 2, below(n + 1), n < 16 ? n : 16, n < 17 ? n : n - 17};
+    fill(key, 16);
+    fill(message, n);
+    openssl_cmac(key, message, n, theirs);
+    for (size_t i = 0; i < COUNT(cuts); i++)
+        expect(primitives_cmac(key, 16, message, cuts[i], message + cuts[i], n - cuts[i], ours, 16) == 0 &&
+                   memcmp(ours, theirs, 16) == 0, "CMAC", n);
+    fill(before, 17);
+    memcpy(ours, before, 17);
+    expect(primitives_cmac(key, 15, message, n, message, 0, ours, 16) == 40 &&
+               primitives_cmac(key, 16, message, n, message, 0, ours, 17) == 40 && memcmp(ours, before, 17) == 0,
+           "CMAC with a wrong length", n);
+}
+
 static int openssl_kdf(const uint8_t *key, size_t key_len, uint8_t *label, size_t label_len, uint8_t *context,
                        size_t context_len, uint8_t *out)
 {
@@ -182,6 +201,7 @@ static void one_length(size_t n)
 {
     hashes(n);
     codes(n % 200, n);
+    cmac_codes(n);
     derivations(1 + n % 150, 1 + n % 17, 1 + n % 65);
     counter_mode(n);
     sealing(11, 32, n);

@@ -1,5 +1,5 @@
 /*
- * Random calls of the five functions, by the library and by the model: the same answers, and the same bytes and numbers in all that
+ * Random calls of the functions, by the library and by the model: the same answers, and the same bytes and numbers in all that
  * was lent. At the end every number that a function can answer must have come up, but 3: lengths_test.c has it.
  *
  * Usage: random_test [SEED [CASES [FIRST]]]: a case is made again by its number, with CASES 1.
@@ -18,6 +18,7 @@ static const struct { enum function function; uint32_t number; } answers[] = {
     {FOLD_RESPONSE, 23}, {FOLD_RESPONSE, 40}, {SEAL, 0}, {SEAL, 1}, {SEAL, 2}, {SEAL, 11}, {SEAL, 12}, {SEAL, 13}, {SEAL, 14},
     {SEAL, 15}, {SEAL, 16}, {SEAL, 17}, {SEAL, 40}, {OPEN, 0}, {OPEN, 1}, {OPEN, 2}, {OPEN, 4}, {OPEN, 5}, {OPEN, 6}, {OPEN, 9},
     {OPEN, 10}, {OPEN, 11}, {OPEN, 12}, {OPEN, 13}, {OPEN, 14}, {OPEN, 15}, {OPEN, 16}, {OPEN, 40},
+    {SIGN, 0}, {SIGN, 11}, {SIGN, 12}, {SIGN, 40}, {VERIFY, 0}, {VERIFY, 11}, {VERIFY, 12}, {VERIFY, 24}, {VERIFY, 25}, {VERIFY, 40},
 };
 
 int main(int argc, char **argv)

@@ -5,7 +5,7 @@ TEST_HEADERS = $(wildcard tests/*.h) include/smb3seal.h $(BUILD)/smb3_vectors.h
 SHARED = check openssl_aead model call messages generate guard table_model table_call table_generate
 KEY_TESTS = vectors_test numbers_test lengths_test walk_test bits_test random_test guard_test
 TABLE_TESTS = table_calls_test table_numbers_test table_test table_guard_test
-LIBRARY_TESTS = $(KEY_TESTS) $(TABLE_TESTS)
+LIBRARY_TESTS = $(KEY_TESTS) sign_test $(TABLE_TESTS)
 
 # Each program twice: as it is, and with the sanitizers.
 $(BUILD)/plain/%.o: tests/%.c $(TEST_HEADERS)
@@ -32,8 +32,8 @@ VALGRIND_CASES = 10000
 VALGRIND_LISTS = 2000
 
 # Each program once more, with a library that can be made wrong.
-EXPORTS = derive fold fold_response seal open table_find table_add table_remove table_seal table_open
-WRONG = $(BUILD)/plain/mutants.o $(BUILD)/plain/table_mutants.o
+EXPORTS = derive fold fold_response seal open sign verify table_find table_add table_remove table_seal table_open
+WRONG = $(BUILD)/plain/mutants.o $(BUILD)/plain/sign_mutants.o $(BUILD)/plain/table_mutants.o
 MUTANTS = $(LIBRARY_TESTS:%=$(BUILD)/mutants/%)
 $(MUTANTS): $(BUILD)/mutants/%: $(BUILD)/plain/%.o $(SHARED:%=$(BUILD)/plain/%.o) $(WRONG) $(ARCHIVE)
 	@mkdir -p $(@D)
@@ -79,6 +79,7 @@ mutants:
 
 run-mutants: $(MUTANTS)
 	@scripts/mutants $(BUILD)/mutants tests/mutants.c vectors_test walk_test lengths_test bits_test guard_test numbers_test
+	@scripts/mutants $(BUILD)/mutants tests/sign_mutants.c sign_test guard_test
 	@scripts/mutants $(BUILD)/mutants tests/table_mutants.c table_calls_test table_guard_test table_numbers_test
 
 tshark:

@@ -103,4 +103,17 @@ extern "C" {
         message_len: usize,
         headers: *mut u64,
     ) -> u32;
+
+    pub fn smb3seal_sign(
+        key: *const u8,
+        key_len: usize,
+        message: *mut u8,
+        message_len: usize,
+    ) -> u32;
+    pub fn smb3seal_verify(
+        key: *const u8,
+        key_len: usize,
+        message: *const u8,
+        message_len: usize,
+    ) -> u32;
 }

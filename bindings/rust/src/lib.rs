@@ -1,4 +1,5 @@
-//! The message protection of SMB 3: the preauthentication hash value, the four keys, sealing and opening in place.
+//! The message protection of SMB 3: the preauthentication hash value, the four keys, sealing and opening in place, signing and
+//! verifying in clear.
 //!
 //! A thin, safe layer over the functions of `libsmb3seal.a`, which are proved for all inputs. What the C header asks of a caller (no
 //! overlap, lengths that are true, no null pointer) holds here by the types; lengths of keys and hash values are part of their types
@@ -44,21 +45,23 @@ mod connection;
 mod ffi;
 mod refusal;
 mod sealer;
+mod signing;
 mod table;
 
 pub use connection::{Connection, Role};
 pub use refusal::Refusal;
 pub use sealer::Sealer;
+pub use signing::{sign, verify};
 pub use table::{Login, Opened, Session, Sessions, Table};
 
 use std::fmt;
 
 /// Bytes of the transform header, before every sealed message.
 pub const HEADER_BYTES: usize = 52;
-/// The most bytes behind the transform header, and of a message that is folded.
+/// The most bytes behind the transform header, and of a message that is folded, signed or verified.
 pub const LONGEST_MESSAGE: usize = 1_048_576;
 
-/// A cipher key.
+/// A cipher or signing key.
 pub type Key = [u8; 16];
 
 /// A dialect, as MS-SMB2 numbers it. Any number may stand here; those that are no SMB 3 dialect are refused.
@@ -158,7 +161,7 @@ impl Chain {
 /// The four keys of a session. They are not printed, and not wiped when dropped.
 #[derive(Clone, PartialEq, Eq)]
 pub struct Keys {
-    /// Signs messages.
+    /// Both ends sign and verify with it.
     pub signing: Key,
     /// For the application above.
     pub application: Key,

@@ -30,7 +30,7 @@ macro_rules! refusals {
 refusals! {
     NOT_ENCRYPTING = 1, "this connection does not encrypt: dialect, setting or cipher";
     TOO_SHORT = 2, "the message is not longer than a transform header";
-    TOO_LONG = 3, "the message is longer than 1,048,576 bytes behind its transform header";
+    TOO_LONG = 3, "the message is longer than 1,048,576 bytes, those behind its transform header if it has one";
     NOT_TRANSFORM = 4, "the message does not begin with a transform header";
     BAD_FLAGS = 5, "the transform header's Flags are not 0x0001";
     OTHER_SESSION = 6, "the transform header names another session, or the table has no session of this id";
@@ -38,8 +38,8 @@ refusals! {
     GUEST = 8, "the session is guest or anonymous";
     BAD_TAG = 9, "the tag differs";
     BAD_SIZE = 10, "OriginalMessageSize differs from the message's size";
-    INNER_TOO_SHORT = 11, "the inner message is shorter than a header";
-    NOT_HEADER = 12, "an inner header does not begin FE 53 4D 42";
+    INNER_TOO_SHORT = 11, "the inner message, or the one to sign or verify, is shorter than a header";
+    NOT_HEADER = 12, "an inner header, or the message to sign or verify, does not begin FE 53 4D 42";
     FIRST_RELATED = 13, "the first inner header has the related flag";
     INNER_SESSION = 14, "an inner header names another session";
     NEXT_OUTSIDE = 15, "NextCommand points into its own header or past the end";
@@ -51,6 +51,8 @@ refusals! {
     ID_TAKEN = 21, "a session with this id is in the table";
     TABLE_FULL = 22, "the session table is full";
     FOLD_LENGTH = 23, "a message to fold has under 64 or over 1,048,576 bytes";
+    NOT_SIGNED = 24, "the message is not signed";
+    BAD_SIGNATURE = 25, "the signature differs";
     BAD_LENGTH = 40, "a lent key, chain value or place for keys has the wrong length";
 }
 

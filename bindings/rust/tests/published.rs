@@ -1,5 +1,5 @@
 //! The sessions published with sealed messages (vectors/smb3.json), through the wrapper.
-use smb3seal::{open, seal, Chain, Cipher, Dialect, Keys, Protection};
+use smb3seal::{open, seal, sign, verify, Chain, Cipher, Dialect, Keys, Protection};
 
 const FILE: &str = include_str!("../../../vectors/smb3.json");
 
@@ -103,4 +103,21 @@ fn session_with_gcm() {
 #[test]
 fn session_with_ccm() {
     session("\"000/A.2 CCM\"", Cipher::AES_128_CCM);
+}
+
+/// Each published signed message is accepted, and signed again to the same bytes.
+#[test]
+fn signed_messages() {
+    let signed = parts(FILE, "what");
+    assert_eq!(signed.len(), 7);
+    for text in signed {
+        let key = bytes(field(text, "key")).try_into().expect("16 bytes");
+        let published = bytes(field(text, "message"));
+        let mut message = published.clone();
+        assert_eq!(verify(&key, &message), Ok(()));
+        message[16] &= !8;
+        message[48..64].fill(0x55);
+        assert_eq!(sign(&key, &mut message), Ok(()));
+        assert_eq!(message, published);
+    }
 }

@@ -1,7 +1,7 @@
 //! What is refused, with which number, and that a refusal changes nothing.
 use smb3seal::{
-    open, seal, Chain, Cipher, Dialect, Keys, Protection, Refusal, Sealer, HEADER_BYTES,
-    LONGEST_MESSAGE,
+    open, seal, sign, verify, Chain, Cipher, Dialect, Keys, Protection, Refusal, Sealer,
+    HEADER_BYTES, LONGEST_MESSAGE,
 };
 
 const KEY: [u8; 16] = [7; 16];
@@ -88,6 +88,28 @@ fn sealings() {
     let mut message = plain(136);
     message[72] = 68;
     sealing(&GCM, 9, message, Refusal::NEXT_UNALIGNED);
+}
+
+/// Signing refuses with this number and leaves the message; verifying refuses with it too.
+fn in_clear(mut message: Vec<u8>, expected: Refusal) {
+    let lent = message.clone();
+    assert_eq!(verify(&KEY, &message), Err(expected));
+    assert_eq!(sign(&KEY, &mut message), Err(expected));
+    assert_eq!(message, lent);
+}
+
+#[test]
+fn signatures() {
+    let plain = plain(64)[HEADER_BYTES..].to_vec();
+    let mut signed = plain.clone();
+    assert_eq!(sign(&KEY, &mut signed), Ok(()));
+    assert_eq!(verify(&KEY, &signed), Ok(()));
+    assert_eq!(verify(&[8; 16], &signed), Err(Refusal::BAD_SIGNATURE));
+    assert_eq!(verify(&KEY, &plain), Err(Refusal::NOT_SIGNED));
+    in_clear(signed[..63].to_vec(), Refusal::INNER_TOO_SHORT);
+    in_clear(vec![0xFE; LONGEST_MESSAGE + 1], Refusal::TOO_LONG);
+    signed[0] = 0xFD;
+    in_clear(signed, Refusal::NOT_HEADER);
 }
 
 #[test]

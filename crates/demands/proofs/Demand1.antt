@@ -9,8 +9,8 @@ use Rattle.protocol.specs.Bytes.{Bytes}
 use Rattle.protocol.specs.Answer.{Answer, done, carried}
 use Rattle.protocol.specs.Preauth.{FoldKind, statusAllows}
 use Rattle.protocol.specs.Transform.{Primitives}
-use Rattle.protocol.specs.Calls.{Call, derivation, folding, sealingUnder, openingUnder, adding, removing, stepping, sealing, opening}
-use Rattle.protocol.specs.Calls.{Lent, withChain, sealTests, openTests, tests, effect, answer, left}
+use Rattle.protocol.specs.Calls.{Call, derivation, folding, sealingUnder, openingUnder, signingUnder, verifyingUnder, adding, removing, stepping}
+use Rattle.protocol.specs.Calls.{sealing, opening, Lent, withChain, sealTests, openTests, tests, effect, answer, left}
 use Rattle.protocol.specs.Suite.{suite}
 use Rattle.demands.specs.Lines.{None, no-line}
 use Rattle.demands.specs.Demand1.{numbersTested, order, Demand1}
@@ -24,6 +24,8 @@ module _ (P : Primitives) where
   orders (folding kind m) w = refl
   orders (sealingUnder c key id) w = refl
   orders (openingUnder c key id) w = refl
+  orders (signingUnder key) w = refl
+  orders (verifyingUnder key) w = refl
   orders (adding a) w = refl
   orders (removing i) w = refl
   orders (stepping i by) w = refl

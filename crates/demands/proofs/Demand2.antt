@@ -1,4 +1,4 @@
--- Demand 2: what a call leaves is its effect, and the checks of an opening both ways.
+-- Demand 2: what a call leaves is its effect, and the checks of opening, signing and verifying both ways.
 -- Assumes nothing.
 use mathlib.Core.Path.{_≡_, refl, ap, _∙_}
 use mathlib.Core.Bool.{Bool, true, false, cond}
@@ -16,16 +16,18 @@ use Rattle.protocol.specs.Keys.{keys311, keys300, derivedKeys}
 use Rattle.protocol.specs.Preauth.{FoldKind, statusAllows}
 use Rattle.protocol.specs.Ciphers.{cipherOf}
 use Rattle.protocol.specs.Transform.{plaintextUnder}
-use Rattle.protocol.specs.Calls.{derivation, folding, sealingUnder, openingUnder, adding, sealing, opening}
+use Rattle.protocol.specs.Calls.{derivation, folding, sealingUnder, openingUnder, signingUnder, adding, sealing, opening}
 use Rattle.protocol.specs.Calls.{Lent, withMessage, withChain, openTests, tests, effect, answer, left}
 use Rattle.protocol.specs.Suite.{suite, sha512, kdf, ciphers}
-use Rattle.protocol.proofs.SuiteLaws.{sha512-is, kdf-of-document}
+use Rattle.protocol.proofs.SuiteLaws.{sha512-is, kdf-of-document, cmac-is}
 use Rattle.demands.specs.Lines.{no-line}
 use Rattle.demands.specs.Opening.{Carries, OpensUnderKey, OpensWithRecord}
-use Rattle.demands.specs.Demand2.{keyFrom, KeysOfPapers, ChainOfPapers, CiphersOfPapers, SealedOfPapers, recordNamed, openedWith, OpenedOfPapers, Demand2}
+use Rattle.demands.specs.Demand2.{keyFrom, KeysOfPapers, ChainOfPapers, CiphersOfPapers, SealedOfPapers, recordNamed, openedWith, OpenedOfPapers}
+use Rattle.demands.specs.Demand2.{SignedOfPapers, Demand2}
 use Rattle.demands.proofs.Answering.{passes-of, done-of}
 use Rattle.demands.proofs.CallLaws.{left-done}
 use Rattle.demands.proofs.Padding.{padded-then-cut}
+use Rattle.demands.proofs.Signing.{signs, signs-if, verifies, verifies-if}
 use Rattle.demands.proofs.Checks.{carried-text, under-key-says, says-under-key, record-says, record-text, says-record}
 
 -- ---- keys
@@ -139,6 +141,16 @@ opened-of-papers =
       text-with-table = table-left;
     }
 
+signed-of-papers : SignedOfPapers
+unfolding effect
+signed-of-papers =
+    record {
+      aes-cmac = cmac-is;
+      signs = λ key w n. (signs key w n, signs-if key w n);
+      bytes = λ key. left-done suite (signingUnder key);
+      verifies = λ key w n. (verifies key w n, verifies-if key w n);
+    }
+
 pub demand2 : Demand2
 demand2 =
     record {
@@ -147,4 +159,5 @@ demand2 =
       enciphered = ciphers-of-papers;
       sealed = sealed-of-papers;
       opened = opened-of-papers;
+      signed = signed-of-papers;
     }

@@ -11,8 +11,8 @@ use Rattle.protocol.specs.Bytes.{Bytes}
 use Rattle.protocol.specs.Answer.{refused, done, whenDone}
 use Rattle.protocol.specs.Preauth.{freshChain, FoldKind, admitted, statusAllows}
 use Rattle.protocol.specs.Transform.{Primitives}
-use Rattle.protocol.specs.Calls.{Call, derivation, folding, sealingUnder, openingUnder, adding, removing, stepping, sealing, opening}
-use Rattle.protocol.specs.Calls.{Lent, onlyChain, tests, effect}
+use Rattle.protocol.specs.Calls.{Call, derivation, folding, sealingUnder, openingUnder, signingUnder, verifyingUnder, adding, removing, stepping}
+use Rattle.protocol.specs.Calls.{sealing, opening, Lent, onlyChain, tests, effect}
 use Rattle.demands.specs.Chains.{goesIn, foldedInBy, messagesFoldedIn, chainLeft, chainAfter, hashedWith, stringsHashed, ChainCalls, endMessages}
 use Rattle.demands.specs.Chains.{connectionChain, sessionChain, endStrings, ChainsAgree}
 use Rattle.demands.proofs.CallLaws.{left-alone}
@@ -52,6 +52,8 @@ module _ (P : Primitives) where
   folds v (derivation dialect chain material) l = leaves v _ refl refl
   folds v (sealingUnder c key id) l = leaves v _ refl refl
   folds v (openingUnder c key id) l = leaves v _ refl refl
+  folds v (signingUnder key) l = leaves v _ refl refl
+  folds v (verifyingUnder key) l = leaves v _ refl refl
   folds v (adding a) l = leaves v _ refl refl
   folds v (removing i) l = leaves v _ refl refl
   folds v (stepping i by) l = leaves v _ refl refl

@@ -6,6 +6,7 @@ pub mod Demand1
 pub mod Padding
 pub mod Carrying
 pub mod Checks
+pub mod Signing
 pub mod Demand2
 pub mod ChainLaws
 pub mod FoldLaws

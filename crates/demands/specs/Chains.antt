@@ -8,7 +8,8 @@ use mathlib.Core.List.{List, [], _∷_, _++_, List·Memᴰ}
 use Rattle.protocol.specs.Bytes.{Bytes}
 use Rattle.protocol.specs.Preauth.{freshChain, FoldKind, admitted, statusAllows}
 use Rattle.protocol.specs.Transform.{Primitives}
-use Rattle.protocol.specs.Calls.{Call, derivation, folding, sealingUnder, openingUnder, adding, removing, stepping, sealing, opening, onlyChain, left}
+use Rattle.protocol.specs.Calls.{Call, derivation, folding, sealingUnder, openingUnder, signingUnder, verifyingUnder, adding, removing}
+use Rattle.protocol.specs.Calls.{stepping, sealing, opening, onlyChain, left}
 
 -- ---- what a list of calls folds in. Calls that fold nothing may stand in it
 
@@ -22,6 +23,8 @@ foldedInBy (folding kind m) = cond (goesIn kind m) (m ∷ []) []
 foldedInBy (derivation dialect chain material) = []
 foldedInBy (sealingUnder c key id) = []
 foldedInBy (openingUnder c key id) = []
+foldedInBy (signingUnder key) = []
+foldedInBy (verifyingUnder key) = []
 foldedInBy (adding a) = []
 foldedInBy (removing i) = []
 foldedInBy (stepping i by) = []

@@ -13,8 +13,8 @@ use Rattle.protocol.specs.InnerHeader.{Envelope}
 use Rattle.protocol.specs.Compound.{firstHeaderTests, nextHeaderTests}
 use Rattle.protocol.specs.Preauth.{FoldKind, statusAllows}
 use Rattle.protocol.specs.Transform.{Primitives}
-use Rattle.protocol.specs.Calls.{Call, derivation, folding, sealingUnder, openingUnder, adding, removing, stepping, sealing, opening}
-use Rattle.protocol.specs.Calls.{Lent, Inner, carries, over, Tests, verdict, tests, answer, left}
+use Rattle.protocol.specs.Calls.{Call, derivation, folding, sealingUnder, openingUnder, signingUnder, verifyingUnder, adding, removing, stepping}
+use Rattle.protocol.specs.Calls.{sealing, opening, Lent, Inner, carries, over, Tests, verdict, tests, answer, left}
 use Rattle.demands.specs.Lines.{First, None}
 use Rattle.demands.specs.Walk.{Walked, Broken}
 
@@ -38,6 +38,8 @@ order (derivation dialect chain material) = 40 ∷ 18 ∷ 19 ∷ []
 order (folding kind m) = 40 ∷ 23 ∷ []
 order (sealingUnder c key id) = 40 ∷ 1 ∷ 2 ∷ 3 ∷ 11 ∷ 12 ∷ 13 ∷ 14 ∷ 15 ∷ 16 ∷ 17 ∷ []
 order (openingUnder c key id) = 40 ∷ 1 ∷ 2 ∷ 3 ∷ 4 ∷ 5 ∷ 6 ∷ 9 ∷ 10 ∷ 11 ∷ 12 ∷ 13 ∷ 14 ∷ 15 ∷ 16 ∷ []
+order (signingUnder key) = 40 ∷ 3 ∷ 11 ∷ 12 ∷ []
+order (verifyingUnder key) = 40 ∷ 3 ∷ 11 ∷ 12 ∷ 24 ∷ 25 ∷ []
 order (adding a) = 40 ∷ 18 ∷ 19 ∷ 20 ∷ 21 ∷ 22 ∷ []
 order (removing i) = 6 ∷ []
 order (stepping i by) = []

@@ -1,5 +1,6 @@
--- Demand 2: keys, chain values and sealed bytes are those of the papers, and a message opens exactly if every listed check holds.
--- Of the suite: HMAC, SHA-2, AES, CCM and GCM are the definitions of FIPS 198-1, 180-4, 197, SP 800-38C and 800-38D in their own crates.
+-- Demand 2: keys, chain values, sealed and signed bytes are those of the papers, and a message opens, or verifies, exactly if every listed
+-- check holds. Of the suite: HMAC, SHA-2, AES, CCM, GCM and CMAC are the definitions of FIPS 198-1, 180-4, 197, SP 800-38C, 800-38D and
+-- 800-38B in their own crates.
 -- The tables of labels, the header's fields and their order are cited from protocol, where the rules' sentences stand beside them.
 -- Assumes nothing.
 use mathlib.Core.Path.{_≡_}
@@ -13,19 +14,22 @@ use Rattle.sha2.specs.Sha512 as sha2
 use Rattle.hmac.specs.Hmac.{hmac}
 use Rattle.ccm.specs.Ccm as ccm
 use Rattle.gcm.specs.Gcm as gcm
+use Rattle.cmac.specs.Cmac as rfc4493
 use Rattle.protocol.specs.Bytes.{Bytes}
 use Rattle.protocol.specs.Answer.{done}
 use Rattle.protocol.specs.Connection.{Connection, cipherUsed}
 use Rattle.protocol.specs.TransformHeader.{inner, sessionIdOf}
 use Rattle.protocol.specs.Keys.{sessionKey, derivationInput, derivedKeys, keys311, keys300, keysInOrder}
 use Rattle.protocol.specs.Preauth.{FoldKind}
+use Rattle.protocol.specs.Signing.{signedUnder}
 use Rattle.protocol.specs.SessionTable.{Session, sealingKey, recordOf, changeRecord, countUp, Adding, newRecord, fillFree}
 use Rattle.protocol.specs.Ciphers.{aes128}
 use Rattle.protocol.specs.Transform.{sealedUnder}
-use Rattle.protocol.specs.Calls.{derivation, folding, sealingUnder, openingUnder, adding, sealing, opening}
+use Rattle.protocol.specs.Calls.{derivation, folding, sealingUnder, openingUnder, signingUnder, verifyingUnder, adding, sealing, opening}
 use Rattle.protocol.specs.Calls.{Lent, withMessage, withTable, withChain, withKeys, withCounter, answer, left}
-use Rattle.protocol.specs.Suite.{suite, kdf, ciphers}
+use Rattle.protocol.specs.Suite.{suite, kdf, cmac, ciphers}
 use Rattle.demands.specs.Opening.{Carries, OpensUnderKey, OpensWithRecord}
+use Rattle.demands.specs.Verifying.{SignChecks, Verifies}
 
 -- ---- keys
 
@@ -97,6 +101,18 @@ pub record OpenedOfPapers : Type 0 where
   pub text-with-table : (c : Connection) (w : Lent) (n : ℕ) (o : OpensWithRecord c (w .message) (recordNamed w) n)
       → left suite (opening c) w ≡ openedWith (o .text) w
 
+-- ---- signed bytes, and verifying
+
+pub record SignedOfPapers : Type 0 where
+  pub aes-cmac : (key m : Bytes) → cmac key m ≡ rfc4493.cmac (aes128 key) m
+  -- a message is signed exactly if every listed check holds
+  pub signs : (key : Bytes) (w : Lent) (n : ℕ) → (answer suite (signingUnder key) w ≡ done n) ↔ (SignChecks key (w .message) × (n ≡ 0))
+  -- "set flag 0x00000008, zero bytes 48..64 of the header, sign the whole message, store the 16 bytes there"
+  pub bytes : (key : Bytes) (w : Lent) (n : ℕ) → answer suite (signingUnder key) w ≡ done n
+      → left suite (signingUnder key) w ≡ withMessage (signedUnder cmac key (w .message)) w
+  -- and verifies exactly if every listed check holds
+  pub verifies : (key : Bytes) (w : Lent) (n : ℕ) → (answer suite (verifyingUnder key) w ≡ done n) ↔ (Verifies key (w .message) × (n ≡ 0))
+
 -- ---- the demand
 
 pub record Demand2 : Type 0 where
@@ -105,3 +121,4 @@ pub record Demand2 : Type 0 where
   pub enciphered : (key nonce auth text : Bytes) → CiphersOfPapers key nonce auth text
   pub sealed : SealedOfPapers
   pub opened : OpenedOfPapers
+  pub signed : SignedOfPapers

@@ -2,9 +2,11 @@ pub mod Lines
 pub mod Walk
 pub mod Demand1
 pub mod Opening
+pub mod Verifying
 pub mod Demand2
 pub mod Chains
 pub mod Steps
 pub mod Demand3
 pub mod OtherRecords
 pub mod UnderKey
+pub mod Signing

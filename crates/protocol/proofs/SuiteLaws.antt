@@ -15,13 +15,15 @@ use Rattle.sha2.proofs.Lengths.{length-hash}
 use Rattle.hmac.specs.Hmac.{hmac}
 use Rattle.kdf.specs.CounterMode.{deriveSha256}
 use Rattle.kdf.proofs.CounterModeLaws.{of-bytes, length-derived}
+use Rattle.cmac.specs.Cmac as rfc4493
+use Rattle.cmac.proofs.Lengths.{length-cmac}
 use Rattle.ccm.proofs.CcmLaws as ccm-laws
 use Rattle.gcm.proofs.GcmLaws as gcm-laws
 use Rattle.protocol.specs.Bytes.{Bytes}
 use Rattle.protocol.specs.Keys.{derivationInput}
 use Rattle.protocol.specs.Sound.{Sound}
 use Rattle.protocol.specs.Ciphers.{aes128, ccmNonce, gcmNonce, Cipher, aes128Ccm, aes128Gcm, cipherOf}
-use Rattle.protocol.specs.Suite.{suite, sha512, kdf}
+use Rattle.protocol.specs.Suite.{suite, sha512, kdf, cmac}
 
 -- ---- each part is what its own crate defines
 
@@ -37,6 +39,10 @@ kdf-is key label context = refl
 pub kdf-of-document : (key label context : Bytes) → kdf key label context ≡ take 16 (hmac sha256 key (derivationInput label context))
 unfolding suite derivationInput
 kdf-of-document key label context = of-bytes key label context
+
+pub cmac-is : (key m : Bytes) → cmac key m ≡ rfc4493.cmac (aes128 key) m
+unfolding suite
+cmac-is key m = refl
 
 -- ---- what is relied on
 
@@ -79,6 +85,7 @@ suite-sound =
     record {
       hash-length = length-hash sha2.sha512;
       key-length = length-derived;
+      signature-length = λ key m. length-cmac (aes128 key) (λ x. length-cipher _ (keyExpansion 4 10 key) x) m;
       tag-length = λ n. (cipher-sound n) .tag-length;
       encrypt-length = λ n. (cipher-sound n) .encrypt-length;
       decrypts = λ n. (cipher-sound n) .decrypts;

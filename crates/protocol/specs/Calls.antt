@@ -1,5 +1,5 @@
 -- Every call as one value: what it is given, what it tests, what it changes. Its answer and what it leaves are then said once, for all calls.
--- RULES 2, 5 and 10.
+-- RULES 2, 5, 10 and 15.
 -- Assumes nothing.
 use mathlib.Core.Bool.{Bool, _&&_}
 use mathlib.Core.List.{List, [], _∷_, _++_}
@@ -15,10 +15,12 @@ use Rattle.protocol.specs.InnerHeader.{Envelope}
 use Rattle.protocol.specs.Compound.{walk}
 use Rattle.protocol.specs.Keys.{sessionKey, derivedKeys, keysInOrder}
 use Rattle.protocol.specs.Preauth.{FoldKind, folded, foldMark}
+use Rattle.protocol.specs.Signing.{signatureUnder, signedUnder}
 use Rattle.protocol.specs.SessionTable.{Session, sealingKey, openingKey, recordOf, changeRecord, removeRecord, hasFree, fillFree, Adding, newRecord}
 use Rattle.protocol.specs.SessionTable.{countUp, counterStep}
 use Rattle.protocol.specs.Refusals.{notEncrypting, tooShort, tooLong, notTransform, badFlags, otherSession, constrained, guest, badTag, badSize}
 use Rattle.protocol.specs.Refusals.{counterUsedUp, unknownDialect, noKeyMaterial, idZero, idTaken, tableFull, foldLength, badLength}
+use Rattle.protocol.specs.Refusals.{innerTooShort, notHeader, notSigned, badSignature}
 use Rattle.protocol.specs.Transform.{Primitives, sealedUnder, plaintextUnder, openedTo}
 
 -- ---- the calls, each with all that it only reads
@@ -30,6 +32,9 @@ pub data Call : Type 0 where
   -- under one given key, for a session id
   sealingUnder : Connection → Bytes → ℕ → Call
   openingUnder : Connection → Bytes → ℕ → Call
+  -- under one given signing key, a message in clear
+  signingUnder : Bytes → Call
+  verifyingUnder : Bytes → Call
   -- with the session table
   adding : Adding → Call
   removing : ℕ → Call
@@ -106,7 +111,7 @@ lines ts = record { before = ts; walked = carries 0; later = [] }
 
 -- ---- parts that several calls share
 
--- 40: a cipher key, a chain value
+-- 40: a cipher or signing key, a chain value
 abbrev pub keyTests : Bytes → List Test
 keyTests key = badLength (eqb (length key) 16) ∷ []
 
@@ -120,6 +125,14 @@ messageTests c m = notEncrypting c ∷ tooShort m ∷ tooLong (inner m) ∷ []
 -- 4 and 5: every opening, on the header
 abbrev pub headerTests : TransformHeader → List Test
 headerTests h = notTransform h ∷ badFlags h ∷ []
+
+-- "Both .. test 3 (over the message's length), 11, 12", and 40 before them
+abbrev pub signTests : Bytes → Bytes → List Test
+signTests key m = keyTests key ++ (tooLong m ∷ innerTooShort m ∷ notHeader m 0 ∷ [])
+
+-- "Verifying .. then tests in this order: 24 .., 25", where right is the signature that the message should have
+abbrev pub verifyTests : Bytes → Bytes → Bytes → List Test
+verifyTests key m right = signTests key m ++ (notSigned m ∷ badSignature right m ∷ [])
 
 -- 6 to 8: every sealing and opening with the table, on the record s that lookup took
 abbrev pub recordTests : Connection → Session → List Test
@@ -187,6 +200,8 @@ module _ (P : Primitives) where
         walked = over (Option·getD text []) (record { id = id });
         later = [];
       }
+  tests (signingUnder key) w = lines (signTests key (w .message))
+  tests (verifyingUnder key) w = lines (verifyTests key (w .message) (signatureUnder (P .cmac) key (w .message)))
   tests (adding a) w = lines (addTests a ((recordOf (a .id) (w .table)) .used) (hasFree (w .table)))
   -- "or answers 6 if there is none"
   tests (removing i) w = lines (otherSession ((recordOf i (w .table)) .used) ∷ [])
@@ -201,6 +216,9 @@ module _ (P : Primitives) where
   effect (sealingUnder c key id) w =
       withCounter (w .counter + 1) (withMessage (sealedUnder (P .ciphers) (cipherUsed c) key (w .counter) id (inner (w .message))) w)
   effect (openingUnder c key id) w = withMessage (openedTo (w .message) (plaintextUnder (P .ciphers) (cipherUsed c) key (w .message))) w
+  effect (signingUnder key) w = withMessage (signedUnder (P .cmac) key (w .message)) w
+  -- it "changes no byte"
+  effect (verifyingUnder key) w = w
   effect (adding a) w = withTable (fillFree (newRecord (P .kdf) a) (w .table)) w
   effect (removing i) w = withTable (removeRecord i (w .table)) w
   effect (stepping i by) w = withTable (changeRecord (counterStep by) i (w .table)) w

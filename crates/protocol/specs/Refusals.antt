@@ -7,12 +7,14 @@ use Prim.Native.Nat.{ℕ, _+_, _%_}
 use lib.Dec.{leb, ltb, eqb}
 use lib.ListN.{length}
 use Rattle.octets.specs.Maybe.{isSome}
+use Rattle.octets.specs.Same.{sameBytes}
 use Rattle.protocol.specs.Bytes.{Bytes}
 use Rattle.protocol.specs.Answer.{Test, refuse_when_}
 use Rattle.protocol.specs.Connection.{Connection, knownDialect, encrypts, longestMessage, lastCounter}
 use Rattle.protocol.specs.TransformHeader.{TransformHeader}
 use Rattle.protocol.specs.InnerHeader.{isInnerHeader, isRelated, innerSessionId, Envelope}
 use Rattle.protocol.specs.Preauth.{admitted}
+use Rattle.protocol.specs.Signing.{isSigned, signatureField}
 use Rattle.protocol.specs.SessionTable.{Session}
 
 -- "dialect not one of the three, or encryption off, or cipher 0, or dialect 3.1.1 with a cipher other than 1 or 2"
@@ -23,7 +25,7 @@ notEncrypting c = refuse 1 when not (encrypts c)
 abbrev pub tooShort : Bytes → Test
 tooShort m = refuse 2 when leb (length m) 52
 
--- "more than 1,048,576 bytes after the transform header", which are p
+-- "more than 1,048,576 bytes after the transform header", which are p; signing and verifying: "over the message's length", all of it
 abbrev pub tooLong : Bytes → Test
 tooLong p = refuse 3 when ltb longestMessage (length p)
 
@@ -55,11 +57,11 @@ badTag text = refuse 9 when not (isSome text)
 abbrev pub badSize : TransformHeader → ℕ → Test
 badSize h n = refuse 10 when not (eqb (h .size) n)
 
--- "inner message under 64 bytes"
+-- "inner message under 64 bytes", or the message that is signed or verified
 abbrev pub innerTooShort : Bytes → Test
 innerTooShort m = refuse 11 when ltb (length m) 64
 
--- "an inner header does not begin FE 53 4D 42": the one at p
+-- "an inner header does not begin FE 53 4D 42": the one at p; signing and verifying look at the one at 0
 abbrev pub notHeader : Bytes → ℕ → Test
 notHeader m p = refuse 12 when not (isInnerHeader m p)
 
@@ -106,6 +108,14 @@ tableFull room = refuse 22 when not room
 -- "folding: message under 64 or over 1,048,576 bytes"
 abbrev pub foldLength : Bytes → Test
 foldLength m = refuse 23 when not (admitted m)
+
+-- "the signed flag is missing"
+abbrev pub notSigned : Bytes → Test
+notSigned m = refuse 24 when not (isSigned m)
+
+-- "the signature differs" from the right one
+abbrev pub badSignature : Bytes → Bytes → Test
+badSignature right m = refuse 25 when not (sameBytes (signatureField m) right)
 
 -- "a lent cipher or signing key (not key material) is not 16, a lent chain value not 64 (on every dialect), or the place for the four keys
 -- not 64 bytes long": whether all that is lent has its length

@@ -10,6 +10,7 @@ use Rattle.protocol.specs.Transform.{Primitives}
 pub record Sound (P : Primitives) : Type 0 where
   pub hash-length : (s : Bytes) → length (P .sha512 s) ≡ 64
   pub key-length : (key label context : Bytes) → length (P .kdf key label context) ≡ 16
+  pub signature-length : (key m : Bytes) → length (P .cmac key m) ≡ 16
   pub tag-length : (cipher : ℕ) (key nonce auth p : Bytes) → length (P .ciphers .tag cipher key nonce auth p) ≡ 16
   pub encrypt-length : (cipher : ℕ) (key nonce auth p : Bytes) → length (P .ciphers .encrypt cipher key nonce auth p) ≡ length p
   -- what was encrypted is decrypted under its tag

@@ -1,10 +1,11 @@
--- The suite: the primitives that RULES 1 and 6 name, out of their own crates' definitions.
+-- The suite: the primitives that RULES 1, 6 and 15 name, out of their own crates' definitions.
 -- Assumes nothing.
 use Rattle.sha2.specs.Sha2.{hash}
 use Rattle.sha2.specs.Sha512 as sha2
 use Rattle.kdf.specs.CounterMode.{deriveSha256}
+use Rattle.cmac.specs.Cmac as rfc4493
 use Rattle.protocol.specs.Bytes.{Bytes}
-use Rattle.protocol.specs.Ciphers.{cipherOf}
+use Rattle.protocol.specs.Ciphers.{aes128, cipherOf}
 use Rattle.protocol.specs.Transform.{Ciphers, Primitives}
 
 unfoldable pub suite : Primitives
@@ -12,6 +13,7 @@ suite =
     record {
       sha512 = hash sha2.sha512;
       kdf = deriveSha256 16;
+      cmac = λ key m. rfc4493.cmac (aes128 key) m;
       ciphers = record { encrypt = λ n. (cipherOf n) .encrypt; tag = λ n. (cipherOf n) .tag; decrypt = λ n. (cipherOf n) .decrypt };
     }
 
@@ -21,6 +23,9 @@ sha512 = suite .sha512
 
 abbrev pub kdf : Bytes → Bytes → Bytes → Bytes
 kdf = suite .kdf
+
+abbrev pub cmac : Bytes → Bytes → Bytes
+cmac = suite .cmac
 
 abbrev pub ciphers : Ciphers
 ciphers = suite .ciphers

@@ -23,6 +23,8 @@ pub record Primitives : Type 0 where
   pub sha512 : Bytes → Bytes
   -- key, label, context
   pub kdf : Bytes → Bytes → Bytes → Bytes
+  -- key, message
+  pub cmac : Bytes → Bytes → Bytes
   pub ciphers : Ciphers
 
 -- ---- cipher, key, then what is sealed or opened

@@ -2,3 +2,4 @@ pub mod Aes
 pub mod Ghash
 pub mod Gcm
 pub mod Ccm
+pub mod Cmac

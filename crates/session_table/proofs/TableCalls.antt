@@ -17,7 +17,8 @@ use Rattle.protocol.specs.Compound.{walk}
 use Rattle.protocol.specs.Refusals.{otherSession, counterUsedUp}
 use Rattle.protocol.specs.SessionTable as protocol
 use Rattle.protocol.specs.Transform.{openedTo}
-use Rattle.protocol.specs.Calls.{Call, derivation, folding, sealingUnder, openingUnder, adding, removing, stepping, sealing, opening, Lent, lines}
+use Rattle.protocol.specs.Calls.{Call, derivation, folding, sealingUnder, openingUnder, signingUnder, verifyingUnder, adding, removing, stepping, sealing, opening}
+use Rattle.protocol.specs.Calls.{Lent, lines}
 use Rattle.protocol.specs.Calls.{onlyTable, messageAndTable, messageTests, recordTests, addTests, sealTests, sealedWith, openTests, plaintext, verdict}
 use Rattle.protocol.specs.Calls.{tests, effect, answer, left}
 use Rattle.protocol.specs.Contract.{Makes, Returns}
@@ -69,6 +70,8 @@ reads-changed (derivation dialect chain material) m t = refl
 reads-changed (folding kind v) m t = refl
 reads-changed (sealingUnder c key id) m t = refl
 reads-changed (openingUnder c key id) m t = refl
+reads-changed (signingUnder key) m t = refl
+reads-changed (verifyingUnder key) m t = refl
 
 leaves-table : (c : Call) (m : Bytes) (t t′ : List Session) → Exactly c (messageAndTable m (tableOf t)) t t′
     → tableOf t′ ≡ whenDone (answer suite c (messageAndTable m (tableOf t))) (λ n. (effect suite c (messageAndTable m (tableOf t))) .table) (tableOf t)

@@ -5,7 +5,7 @@ use mathlib.Core.List.{List}
 use Prim.Native.Nat.{_+_}
 use Rattle.protocol.specs.Answer.{whenDone}
 use Rattle.protocol.specs.SessionTable.{newRecord}
-use Rattle.protocol.specs.Calls.{Call, derivation, folding, sealingUnder, openingUnder, adding, removing, stepping, sealing, opening, Lent, answer}
+use Rattle.protocol.specs.Calls.{Call, derivation, folding, sealingUnder, openingUnder, signingUnder, verifyingUnder, adding, removing, stepping, sealing, opening, Lent, answer}
 use Rattle.protocol.specs.Suite.{suite, kdf}
 use Rattle.session_record.specs.declared.Session.{Session}
 use Rattle.session_record.specs.Reading.{free, stored, withCounter, stepped}
@@ -26,6 +26,8 @@ changed (derivation dialect chain material) t = t
 changed (folding kind m) t = t
 changed (sealingUnder c key id) t = t
 changed (openingUnder c key id) t = t
+changed (signingUnder key) t = t
+changed (verifyingUnder key) t = t
 
 -- and in every other case nothing: t is lent, t′ is left
 abbrev pub Exactly : Call → Lent → List Session → List Session → Type 0

@@ -3,6 +3,7 @@ mod table;
 
 ghost use Rattle.protocol.specs.Preauth.{negotiateMessage, setupRequest, setupResponse};
 ghost use Rattle.protocol.specs.Calls.{derivation, folding, sealingUnder, openingUnder, onlyMessage, messageAndCounter, onlyChain, onlyKeys};
+ghost use Rattle.protocol.specs.Calls.{signingUnder, verifyingUnder};
 ghost use Rattle.protocol.specs.Contract.{Returns};
 ghost use Rattle.connection.specs.Reading.{underKey};
 ghost use Rattle.smb3seal.specs.Exports.{Reports};
@@ -76,4 +77,20 @@ pub extern "C" fn smb3seal_open(
     let c = connection::under_key(dialect, encryption, cipher);
     let answer = transform::open_under(c, key, id, message);
     answer::report(answer, headers)
+}
+
+// Signs the message in place.
+#[no_mangle]
+pub extern "C" fn smb3seal_sign(key: &[u8], message: &mut [u8]) -> u32
+    ensures { λ r. ⌜ Returns (signingUnder (now (key .entry))) (onlyMessage (now (message .entry))) r (onlyMessage (now (message .exit))) ⌝ }
+{
+    signing::sign(key, message)
+}
+
+// Verifies the message, which stays as it is.
+#[no_mangle]
+pub extern "C" fn smb3seal_verify(key: &[u8], message: &[u8]) -> u32
+    ensures { λ r. ⌜ Returns (verifyingUnder (now (key .entry))) (onlyMessage (now (message .entry))) r (onlyMessage (now (message .entry))) ⌝ }
+{
+    signing::verify(key, message)
 }

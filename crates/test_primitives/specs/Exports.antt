@@ -46,6 +46,10 @@ abbrev pub ccmFits : List ℕ → List ℕ → List ℕ → List ℕ → List �
 ccmFits key nonce aad tag text =
     eqb (length key) 16 && eqb (length nonce) 11 && eqb (length aad) 32 && eqb (length tag) 16 && ltb (length text) (2 ^ 32 - 16)
 
+-- the lengths that CMAC asks for: the key's and the place's
+abbrev pub cmacFits : List ℕ → List ℕ → Bool
+cmacFits key code = eqb (length key) 16 && eqb (length code) 16
+
 -- the lengths that GCM asks for
 abbrev pub gcmFits : List ℕ → List ℕ → List ℕ → List ℕ → List ℕ → Bool
 gcmFits key nonce aad tag text =

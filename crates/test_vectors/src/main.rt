@@ -1,6 +1,7 @@
 // Published vectors of the primitives: reads lines of operations from standard input and writes a line of results for each.
 // The file `stdin` has the published inputs, and `stdout`, with which the output is compared, the published results.
 mod block_cipher;
+mod codes;
 mod hashes;
 mod modes;
 mod smb;
@@ -23,6 +24,10 @@ fn run_smb(line: &[u8]) {
         smb::seal(line, false);
     } else if test_lines::is(line, b"seal-length ") {
         smb::seal_length(line);
+    } else if test_lines::is(line, b"sign ") {
+        smb::sign(line);
+    } else if test_lines::is(line, b"verify ") {
+        smb::verify(line);
     }
 }
 
@@ -48,6 +53,10 @@ fn run(line: &[u8]) {
         modes::ccm(line);
     } else if test_lines::is(line, b"gcm ") {
         modes::gcm(line);
+    } else if test_lines::is(line, b"cmac ") {
+        codes::cmac(line);
+    } else if test_lines::is(line, b"cmac-pieces ") {
+        codes::cmac_pieces(line);
     } else {
         run_smb(line);
     }

@@ -1,4 +1,4 @@
-// The library's five functions. Numbers are byte strings with the highest byte first.
+// The library's functions. Numbers are byte strings with the highest byte first.
 ghost use Prim.Native.Nat.{_≤_};
 ghost use lib.ListN.{length};
 
@@ -172,4 +172,36 @@ pub fn seal_length(line: &[u8]) {
     }
     let end = (len as usize) + 52;
     seal_plain(&mut message[..end]);
+}
+
+fn sign_message(key: &[u8], message: &mut [u8]) {
+    let r = smb3seal::smb3seal_sign(key, message);
+    test_lines::show_decimal(r as u64);
+    test_lines::space();
+    test_lines::show(message);
+    test_lines::end_line();
+}
+
+// sign KEY MESSAGE: the number, and the message.
+pub fn sign(line: &[u8]) {
+    let mut key = [0u8; 16];
+    let k = test_lines::bytes(line, test_lines::after_space(line, 0), &mut key);
+    let mut message = [0u8; 1024];
+    let m = test_lines::bytes(line, k.next, &mut message);
+    let len = m.len;
+    sign_message(test_lines::prefix(&key, k.len), &mut message[..len]);
+}
+
+// verify KEY MESSAGE: the number.
+pub fn verify(line: &[u8]) {
+    let mut key = [0u8; 16];
+    let k = test_lines::bytes(line, test_lines::after_space(line, 0), &mut key);
+    let mut message = [0u8; 1024];
+    let m = test_lines::bytes(line, k.next, &mut message);
+    let r = smb3seal::smb3seal_verify(
+        test_lines::prefix(&key, k.len),
+        test_lines::prefix(&message, m.len),
+    );
+    test_lines::show_decimal(r as u64);
+    test_lines::end_line();
 }

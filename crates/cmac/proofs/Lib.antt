@@ -1,0 +1,4 @@
+pub mod Doubling
+pub mod LastBlock
+pub mod Streaming
+pub mod Lengths

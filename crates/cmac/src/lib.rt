@@ -1,0 +1,83 @@
+// AES-CMAC (SP 800-38B, RFC 4493), of a message at once and in pieces.
+mod last;
+
+use blocks::at_most_16;
+use last::last_block;
+use runs::copy;
+ghost use mathlib.Core.Path.{_≡_};
+ghost use mathlib.Core.List.{List, [], _++_};
+ghost use Prim.Native.Nat.{ℕ};
+ghost use Rattle.aes.specs.Tables.{SubMixTable};
+ghost use Rattle.aes.specs.BlockCipher.{blockCipher};
+ghost use Rattle.cmac.specs.Cmac as spec;
+ghost use Rattle.cmac.specs.Running.{Holds};
+
+// A code under way: the chain over the blocks before the last, and the last one, of which so many bytes are there. The round keys and the
+// table of the cipher are lent to each call.
+pub struct Mac {
+    chain: [u8; 16],
+    buffer: [u8; 16],
+    filled: u64,
+}
+
+impl Mac {
+    // Nothing taken in yet.
+    pub fn new() -> Mac
+        ensures { λ r. ⌜ ((E : List ℕ → List ℕ) → Holds r E []) ⌝ }
+    {
+        let zeros = [0u8; 16];
+        Mac {
+            chain: zeros,
+            buffer: zeros,
+            filled: 0,
+        }
+    }
+
+    // The piece follows what was taken in, wherever the cut falls.
+    pub fn update(self, t: &[u32; 256], keys: [[u8; 16]; 11], piece: &[u8]) -> Mac
+        requires { ⌜ SubMixTable (now t) ⌝ }
+        ensures { λ r. ⌜ ((m : List ℕ) → Holds self (blockCipher keys) m → Holds r (blockCipher keys) (m ++ now (piece .entry))) ⌝ }
+    {
+        let n = at_most_16(self.filled as usize);
+        let chain = self.chain;
+        let mut buffer = self.buffer;
+        let room = 16 - n;
+        if piece.len() <= room {
+            copy(&mut buffer, n, piece);
+            return Mac {
+                chain: chain,
+                buffer: buffer,
+                filled: (n + piece.len()) as u64,
+            };
+        }
+        copy(&mut buffer, n, &piece[..room]);
+        let first = cbc_mac::chain(t, keys, chain, &buffer);
+        let rest = &piece[room..];
+        let whole = (rest.len() - 1) / 16 * 16;
+        let next = cbc_mac::chain(t, keys, first, &rest[..whole]);
+        copy(&mut buffer, 0, &rest[whole..]);
+        Mac {
+            chain: next,
+            buffer: buffer,
+            filled: (rest.len() - whole) as u64,
+        }
+    }
+
+    pub fn finish(self, t: &[u32; 256], keys: [[u8; 16]; 11]) -> [u8; 16]
+        requires { ⌜ SubMixTable (now t) ⌝ }
+        ensures { λ r. ⌜ ((m : List ℕ) → Holds self (blockCipher keys) m → r ≡ spec.cmac (blockCipher keys) m) ⌝ }
+    {
+        let n = at_most_16(self.filled as usize);
+        let chain = self.chain;
+        let buffer = self.buffer;
+        let last = last_block(t, keys, &buffer[..n]);
+        cbc_mac::chain(t, keys, chain, &last)
+    }
+}
+
+pub fn cmac(keys: [[u8; 16]; 11], m: &[u8]) -> [u8; 16]
+    ensures { λ r. ⌜ r ≡ spec.cmac (blockCipher keys) (now (m .entry)) ⌝ }
+{
+    let t = aes::table();
+    Mac::new().update(&t, keys, m).finish(&t, keys)
+}
