@@ -15,3 +15,4 @@ pub mod Suite
 pub mod Contract
 pub mod Sound
 pub mod PLines
+pub mod BreakNotices
