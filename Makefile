@@ -6,7 +6,7 @@
 # make test        the whole gate: rt ci, then the outside tests
 # make consistency pages, lists and vectors agree with each other and with the tree: seconds
 # make bench       sealing, opening, derivation and folding beside other libraries; bench-docs: and the figures into docs/
-# make fuzz, samba, coverage   on demand: the fuzzer for a minute; Samba through the library; what the tests execute
+# make fuzz, samba, coverage   on demand: the fuzzers, a minute each; Samba through the library; what the tests execute
 # make install, uninstall (PREFIX, DESTDIR), clean
 
 CFLAGS ?= -O2 -g

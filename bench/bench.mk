@@ -1,5 +1,6 @@
-# Benchmarks: never part of the tests. `make bench` takes some two minutes where the archives are proved; its figures are in
-# target/c: speed.csv, speed.png and stack.csv. `make bench-docs` puts them into docs/.
+# Benchmarks: never part of the tests. `make bench` takes some three minutes where the archives are proved; its figures are in
+# target/c: speed.csv, speed.png, stack.csv and table.csv. `make bench-docs` puts them into docs/. `make bench-table` is the session
+# table's part alone.
 
 BENCH_PARTS = bench batch columns report peer_smb3seal peer_openssl peer_mbedtls peer_nettle peer_wolfssl peer_libtomcrypt
 BENCH_SOURCES = $(BENCH_PARTS:%=bench/%.c)
@@ -14,13 +15,22 @@ $(BUILD)/stack: bench/stack.c include/smb3seal.h tests/primitives.h $(ARCHIVE) $
 	@mkdir -p $(BUILD)
 	$(CC) $(WARNINGS) -O2 $< $(ARCHIVE) $(PRIMITIVES) -Wl,-z,now -o $@
 
+$(BUILD)/table: bench/table.c include/smb3seal.h $(ARCHIVE)
+	@mkdir -p $(BUILD)
+	$(CC) $(WARNINGS) -O2 $< $(ARCHIVE) -o $@
+
+bench-table: $(BUILD)/table
+	@$(BUILD)/table $(BUILD)/table.csv
+	@scripts/table-instructions $(BUILD)/table $(BUILD)/table.csv
+
 bench: setup-bench
 	@$(MAKE) --no-print-directory $(BUILD)/bench $(BUILD)/stack
 	@$(BUILD)/bench $(BUILD)/speed.csv
 	@$(BUILD)/stack $(BUILD)/stack.csv
 	@gnuplot -c bench/speed.gp $(BUILD)/speed.csv $(BUILD)/speed.png
+	@$(MAKE) --no-print-directory bench-table
 
 bench-docs: bench
-	cp $(BUILD)/speed.csv $(BUILD)/speed.png $(BUILD)/stack.csv docs/
+	cp $(BUILD)/speed.csv $(BUILD)/speed.png $(BUILD)/stack.csv $(BUILD)/table.csv docs/
 
-.PHONY: bench bench-docs
+.PHONY: bench bench-docs bench-table

@@ -17,7 +17,7 @@
 #include "../include/smb3seal.h"
 #include "../tests/primitives.h"
 
-enum { STACK = 1048576, HEADER = SMB3SEAL_HEADER_BYTES, LONGEST = SMB3SEAL_LONGEST_MESSAGE, SESSION = 0x3039 };
+enum { STACK = 1048576, HEADER = SMB3SEAL_HEADER_BYTES, LONGEST = SMB3SEAL_LONGEST_MESSAGE, SESSION = 0x3039, RECORDS = 16 };
 enum { CCM = SMB3SEAL_CIPHER_AES_128_CCM, GCM = SMB3SEAL_CIPHER_AES_128_GCM };
 
 /* A call: what is lent to it, and the answer that it has to give. */
@@ -32,6 +32,7 @@ struct call {
 static _Alignas(64) uint8_t painted[STACK];
 static uint8_t message[HEADER + LONGEST], keys[64], chain[64];
 static const uint8_t key[16] = {1, 2, 3};
+static struct smb3seal_session table[RECORDS];
 static const struct call *current;
 static const uint8_t *caller;
 static uint32_t answer;
@@ -69,9 +70,52 @@ static uint32_t open(void)
     return smb3seal_open(SMB3SEAL_DIALECT_311, 1, current->cipher, key, 16, SESSION, message, sizeof message, &headers);
 }
 
-/* The longest message, a chain of headers of 64 bytes each. */
+/* The end that seals is a client, and the one that opens a server: both with the key of one direction. */
+static struct smb3seal_connection connection(uint8_t role)
+{
+    return (struct smb3seal_connection){.dialect = SMB3SEAL_DIALECT_311, .cipher = current->cipher, .role = role, .encryption = 1};
+}
+
+static uint32_t table_find(void)
+{
+    return smb3seal_table_find(table, RECORDS, SESSION) == RECORDS - 1 ? SMB3SEAL_DONE : SMB3SEAL_OTHER_SESSION;
+}
+
+static uint32_t table_add(void)
+{
+    return smb3seal_table_add(table, RECORDS, connection(SMB3SEAL_CLIENT), SESSION + 1, 0, 0, message, LONGEST, chain, 64);
+}
+
+static uint32_t table_remove(void)
+{
+    return smb3seal_table_remove(table, RECORDS, SESSION);
+}
+
+static uint32_t table_seal(void)
+{
+    uint64_t headers;
+    return smb3seal_table_seal(table, RECORDS, connection(SMB3SEAL_CLIENT), SESSION, message, sizeof message, &headers);
+}
+
+static uint32_t table_open(void)
+{
+    uint64_t headers;
+    return smb3seal_table_open(table, RECORDS, connection(SMB3SEAL_SERVER), message, sizeof message, &headers);
+}
+
+/* The session is the last record, and all others but the first are other sessions'. */
+static void fill_table(void)
+{
+    memset(table, 0, sizeof table);
+    for (size_t i = 1; i < RECORDS; i++) table[i] = (struct smb3seal_session){.id = i, .used = 1};
+    table[RECORDS - 1].id = SESSION;
+    memcpy(table[RECORDS - 1].client_to_server, key, 16);
+}
+
+/* The longest message, a chain of headers of 64 bytes each; and the table. */
 static void plain(void)
 {
+    fill_table();
     memset(message, 0, sizeof message);
     for (size_t at = HEADER; at < sizeof message; at += 64) {
         memcpy(message + at, "\xFESMB", 4);
@@ -128,6 +172,15 @@ static const struct call calls[] = {
     {"open, GCM, bad tag", sealed_with_bad_tag, open, GCM, SMB3SEAL_BAD_TAG},
     {"open, CCM, bad inner header", sealed_with_bad_header, open, CCM, SMB3SEAL_NOT_HEADER},
     {"open, GCM, bad inner header", sealed_with_bad_header, open, GCM, SMB3SEAL_NOT_HEADER},
+    {"table_find", plain, table_find, 0, SMB3SEAL_DONE},
+    {"table_add", plain, table_add, 0, SMB3SEAL_DONE},
+    {"table_remove", plain, table_remove, 0, SMB3SEAL_DONE},
+    {"table_seal, CCM", plain, table_seal, CCM, SMB3SEAL_DONE},
+    {"table_seal, GCM", plain, table_seal, GCM, SMB3SEAL_DONE},
+    {"table_open, CCM", sealed, table_open, CCM, SMB3SEAL_DONE},
+    {"table_open, GCM", sealed, table_open, GCM, SMB3SEAL_DONE},
+    {"table_open, CCM, bad tag", sealed_with_bad_tag, table_open, CCM, SMB3SEAL_BAD_TAG},
+    {"table_open, GCM, bad tag", sealed_with_bad_tag, table_open, GCM, SMB3SEAL_BAD_TAG},
 };
 
 static void run_current(void)

@@ -27,7 +27,7 @@ struct call {
 };
 
 /* What a call lends, each at a place of its own. */
-enum place { KEY, CHAIN, MESSAGE, COUNTER, HEADERS, FOLDED, PLACES };
+enum place { KEY, CHAIN, MESSAGE, COUNTER, HEADERS, FOLDED, TABLE, PLACES };
 
 /* How the library is lent its buffers: n bytes copied from `from`, for reading alone where they are not to be written. */
 struct lender {

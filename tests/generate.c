@@ -7,14 +7,14 @@
 
 /* ---- numbers and lengths: mostly right or near the right ones */
 
-static uint16_t any_dialect(void)
+uint16_t any_dialect(void)
 {
     static const uint16_t right[] = {0x0311, 0x0311, 0x0300, 0x0302}, near[] = {0, 0x0202, 0x0210, 0x0301, 0x0310, 0x0312, 0x1103};
     if (chance(93)) return right[below(COUNT(right))];
     return chance(70) ? near[below(COUNT(near))] : (uint16_t)number();
 }
 
-static uint16_t any_cipher(void)
+uint16_t any_cipher(void)
 {
     static const uint16_t near[] = {0, 3, 4, 0x0100, 0x0101, 0x0201, 0xFFFF};
     if (chance(90)) return (uint16_t)(1 + below(2));
@@ -27,13 +27,13 @@ static uint32_t any_switch(void)
     return chance(50) ? 0 : (uint32_t)1 << below(32);
 }
 
-static size_t any_length_like(size_t right)
+size_t any_length_like(size_t right)
 {
     if (chance(96)) return right;
     return chance(50) ? right + below(3) - 1 : below(2 * right + 1);
 }
 
-static uint64_t any_counter(void)
+uint64_t any_counter(void)
 {
     if (chance(80)) return chance(50) ? below(100) : number();
     return UINT64_MAX - below(3);
@@ -177,6 +177,14 @@ static void make_derivation(struct call *c)
     fill(c->message.at, c->message.len);
 }
 
+void generate_message(struct call *c)
+{
+    fill(c->message.at, TRANSFORM);
+    c->message.len = TRANSFORM + any_inner(c->message.at + TRANSFORM, c->id).n;
+    if (c->function == SEAL && chance(2)) c->message.len = below(TRANSFORM + HEADER);
+    if (c->function == OPEN) make_opening(c);
+}
+
 struct call generate(void)
 {
     static const enum function functions[] = {DERIVE, FOLD, FOLD_RESPONSE, SEAL, SEAL, SEAL, OPEN, OPEN, OPEN, OPEN, OPEN, OPEN};
@@ -189,12 +197,7 @@ struct call generate(void)
     c.folded = (uint32_t)number();
     fill(c.key.at, 32);
     fill(c.chain.at, 128);
-    if (c.function == SEAL || c.function == OPEN) {
-        fill(c.message.at, TRANSFORM);
-        c.message.len = TRANSFORM + any_inner(c.message.at + TRANSFORM, c.id).n;
-    }
-    if (c.function == SEAL && chance(2)) c.message.len = below(TRANSFORM + HEADER);
-    if (c.function == OPEN) make_opening(&c);
+    if (c.function == SEAL || c.function == OPEN) generate_message(&c);
     if (c.function == FOLD || c.function == FOLD_RESPONSE) make_folding(&c);
     if (c.function == DERIVE) make_derivation(&c);
     else c.key.len = any_length_like(16);

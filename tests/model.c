@@ -131,8 +131,7 @@ static uint32_t walk(const uint8_t *inner, size_t n, uint64_t id, uint64_t *visi
 
 /* ---- sealing and opening */
 
-/* 1, 2 and 3, and 40 before them. */
-static uint32_t first_tests(uint16_t dialect, uint32_t encryption, uint16_t cipher, size_t key_len, size_t message_len)
+uint32_t model_first_tests(uint16_t dialect, uint32_t encryption, uint16_t cipher, size_t key_len, size_t message_len)
 {
     if (key_len != 16) return 40;
     if (!known(dialect) || encryption == 0 || cipher == 0) return 1;
@@ -153,7 +152,7 @@ uint32_t model_seal(uint16_t dialect, uint32_t encryption, uint16_t cipher, cons
                     uint64_t *counter, uint8_t *message, size_t message_len, uint64_t *headers)
 {
     uint64_t visited = 0;
-    uint32_t r = first_tests(dialect, encryption, cipher, key_len, message_len);
+    uint32_t r = model_first_tests(dialect, encryption, cipher, key_len, message_len);
     if (r == 0) r = walk(message + TRANSFORM, message_len - TRANSFORM, session_id, &visited);
     if (r == 0 && *counter == UINT64_MAX) r = 17;
     if (r != 0) return r;
@@ -170,21 +169,25 @@ uint32_t model_seal(uint16_t dialect, uint32_t encryption, uint16_t cipher, cons
     return 0;
 }
 
-/* 4, 5 and 6. */
-static uint32_t transform_tests(const uint8_t *message, uint64_t session_id)
+uint32_t model_transform_tests(const uint8_t *message)
 {
     if (memcmp(message, "\xFDSMB", 4) != 0) return 4;
     if (little_endian(message + 42, 2) != 1) return 5;
-    if (little_endian(message + 44, 8) != session_id) return 6;
     return 0;
+}
+
+uint64_t model_session_id(const uint8_t *message)
+{
+    return little_endian(message + 44, 8);
 }
 
 uint32_t model_open(uint16_t dialect, uint32_t encryption, uint16_t cipher, const uint8_t *key, size_t key_len, uint64_t session_id,
                     uint8_t *message, size_t message_len, uint64_t *headers)
 {
     uint64_t visited = 0;
-    uint32_t r = first_tests(dialect, encryption, cipher, key_len, message_len);
-    if (r == 0) r = transform_tests(message, session_id);
+    uint32_t r = model_first_tests(dialect, encryption, cipher, key_len, message_len);
+    if (r == 0) r = model_transform_tests(message);
+    if (r == 0 && model_session_id(message) != session_id) r = 6;
     if (r != 0) return r;
     size_t n = message_len - TRANSFORM;
     uint8_t *plaintext = malloc(n);

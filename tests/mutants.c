@@ -1,29 +1,34 @@
-/*
- * Wrong libraries, to see that the tests notice them. Linked with --wrap, so that each call of the library comes here first; the
- * environment variable MUTANT names the one fault to make. scripts/mutants runs the tests for each.
- */
+#include "mutants.h"
+
 #include <stdlib.h>
 #include <string.h>
 
 #include "../include/smb3seal.h"
 #include "openssl_aead.h"
 
-static int fault(const char *name)
+int fault(const char *name)
 {
-    const char *chosen = getenv("MUTANT");
-    return chosen != NULL && strcmp(chosen, name) == 0;
+    static const char *chosen;
+    if (chosen == NULL) chosen = getenv("MUTANT");
+    if (chosen == NULL) chosen = "";
+    return strcmp(chosen, name) == 0;
 }
 
-/* A byte is read and written again: only where that is not allowed can it be noticed. */
-static void touch(const uint8_t *at)
+void touch(const void *at)
 {
     volatile uint8_t *byte = (volatile uint8_t *)at;
     *byte = *byte;
 }
 
-static uint8_t look(const uint8_t *at)
+void look(const void *at)
 {
-    return *(const volatile uint8_t *)at;
+    (void)*(const volatile uint8_t *)at;
+}
+
+void leave_plaintext(uint16_t dialect, uint16_t cipher, const uint8_t *key, uint8_t *message, size_t message_len)
+{
+    struct aead how = {key, message + 20, dialect == 0x0311 && cipher == 2 ? 12 : 11, message + 20, 32};
+    openssl_open(&how, message + 52, message_len - 52, message + 4);
 }
 
 uint32_t __real_smb3seal_derive(uint16_t, const uint8_t *, size_t, const uint8_t *, size_t, uint8_t *, size_t);
@@ -87,13 +92,6 @@ uint32_t __wrap_smb3seal_seal(uint16_t dialect, uint32_t encryption, uint16_t ci
     if (fault("seal: Reserved is not zero")) message[40] = 1;
     if (fault("seal: a wrong bit of the tag")) message[19] ^= 0x80;
     return r;
-}
-
-/* What a library that decrypts in place and forgets about it leaves behind. */
-static void leave_plaintext(uint16_t dialect, uint16_t cipher, const uint8_t *key, uint8_t *message, size_t message_len)
-{
-    struct aead how = {key, message + 20, dialect == 0x0311 && cipher == 2 ? 12 : 11, message + 20, 32};
-    openssl_open(&how, message + 52, message_len - 52, message + 4);
 }
 
 uint32_t __real_smb3seal_open(uint16_t, uint32_t, uint16_t, const uint8_t *, size_t, uint64_t, uint8_t *, size_t, uint64_t *);

@@ -2,8 +2,10 @@
 # needs is missing.
 
 TEST_HEADERS = $(wildcard tests/*.h) include/smb3seal.h $(BUILD)/smb3_vectors.h
-SHARED = check openssl_aead model call messages generate
-LIBRARY_TESTS = vectors_test numbers_test lengths_test walk_test bits_test random_test guard_test
+SHARED = check openssl_aead model call messages generate guard table_model table_call table_generate
+KEY_TESTS = vectors_test numbers_test lengths_test walk_test bits_test random_test guard_test
+TABLE_TESTS = table_calls_test table_numbers_test table_test table_guard_test
+LIBRARY_TESTS = $(KEY_TESTS) $(TABLE_TESTS)
 
 # Each program twice: as it is, and with the sanitizers.
 $(BUILD)/plain/%.o: tests/%.c $(TEST_HEADERS)
@@ -27,13 +29,15 @@ $(eval $(call link,sanitized,$(SANITIZE)))
 PROGRAMS = $(foreach t,primitives_test $(LIBRARY_TESTS),$(BUILD)/plain/$(t) $(BUILD)/sanitized/$(t))
 VALGRIND = valgrind --quiet --error-exitcode=1 --leak-check=full
 VALGRIND_CASES = 10000
+VALGRIND_LISTS = 2000
 
 # Each program once more, with a library that can be made wrong.
-FIVE = derive fold fold_response seal open
+EXPORTS = derive fold fold_response seal open table_find table_add table_remove table_seal table_open
+WRONG = $(BUILD)/plain/mutants.o $(BUILD)/plain/table_mutants.o
 MUTANTS = $(LIBRARY_TESTS:%=$(BUILD)/mutants/%)
-$(MUTANTS): $(BUILD)/mutants/%: $(BUILD)/plain/%.o $(SHARED:%=$(BUILD)/plain/%.o) $(BUILD)/plain/mutants.o $(ARCHIVE)
+$(MUTANTS): $(BUILD)/mutants/%: $(BUILD)/plain/%.o $(SHARED:%=$(BUILD)/plain/%.o) $(WRONG) $(ARCHIVE)
 	@mkdir -p $(@D)
-	$(CC) $(FIVE:%=-Wl,--wrap=smb3seal_%) $^ -lcrypto -o $@
+	$(CC) $(EXPORTS:%=-Wl,--wrap=smb3seal_%) $^ -lcrypto -o $@
 
 outside: setup-test
 	@$(MAKE) --silent --no-print-directory NO_SETUP=1 outside-tests
@@ -60,20 +64,22 @@ programs:
 
 # Under the sanitizers, other random calls than as it is, and fewer.
 run-programs: $(PROGRAMS)
-	@for t in $(filter-out %sanitized/random_test,$(PROGRAMS)) "$(BUILD)/sanitized/random_test 2 20000"; do $$t || exit 1; done
+	@for t in $(filter-out %sanitized/random_test %sanitized/table_test,$(PROGRAMS)) \
+	    "$(BUILD)/sanitized/random_test 2 20000" "$(BUILD)/sanitized/table_test 2 20000"; do $$t || exit 1; done
 
 valgrind:
 	@scripts/test-with "the C tests under valgrind" libssl-dev valgrind -- $(AGAIN) run-valgrind
 
-run-valgrind: $(addprefix $(BUILD)/plain/,vectors_test walk_test lengths_test random_test)
-	@for t in vectors_test walk_test lengths_test "random_test 1 $(VALGRIND_CASES)"; do \
+run-valgrind: $(addprefix $(BUILD)/plain/,vectors_test walk_test lengths_test random_test table_test)
+	@for t in vectors_test walk_test lengths_test "random_test 1 $(VALGRIND_CASES)" "table_test 1 $(VALGRIND_LISTS)"; do \
 	    printf 'valgrind '; $(VALGRIND) $(BUILD)/plain/$$t || exit 1; done
 
 mutants:
 	@scripts/test-with "the wrong libraries" libssl-dev -- $(AGAIN) run-mutants
 
 run-mutants: $(MUTANTS)
-	@scripts/mutants $(BUILD)/mutants tests/mutants.c
+	@scripts/mutants $(BUILD)/mutants tests/mutants.c vectors_test walk_test lengths_test bits_test guard_test numbers_test
+	@scripts/mutants $(BUILD)/mutants tests/table_mutants.c table_calls_test table_guard_test table_numbers_test
 
 tshark:
 	@scripts/test-with "tshark on a capture" libssl-dev tshark -- $(AGAIN) run-tshark
@@ -81,17 +87,20 @@ tshark:
 run-tshark: $(BUILD)/plain/capture
 	@scripts/tshark-check $(BUILD)/plain/capture $(BUILD)/tshark
 
-# A bounded run of the fuzzer, on demand. What it finds goes to $(BUILD)/fuzz; the inputs that it keeps, to $(BUILD)/fuzz/inputs.
+# A bounded run of each fuzzer, on demand. What they find goes to $(BUILD)/fuzz; the inputs that they keep, to folders in it.
 FUZZ_SECONDS ?= 60
-$(BUILD)/fuzz/fuzz: $(patsubst %,tests/%.c,fuzz $(SHARED)) $(TEST_HEADERS) $(ARCHIVE)
+FUZZ = -max_total_time=$(FUZZ_SECONDS) -max_len=4096 -print_final_stats=1 -artifact_prefix=$(BUILD)/fuzz/
+FUZZERS = $(BUILD)/fuzz/fuzz $(BUILD)/fuzz/table_fuzz
+$(FUZZERS): $(BUILD)/fuzz/%: tests/%.c $(SHARED:%=tests/%.c) $(TEST_HEADERS) $(ARCHIVE)
 	@mkdir -p $(@D)
 	clang $(WARNINGS) -O1 -g -fsanitize=fuzzer,address,undefined -fno-sanitize-recover=all $(filter %.c %.a,$^) -lcrypto -o $@
 
 fuzz: setup-fuzz
-	@$(MAKE) --no-print-directory $(BUILD)/fuzz/fuzz
+	@$(MAKE) --no-print-directory $(FUZZERS)
 	scripts/fuzz-seeds $(BUILD)/fuzz/inputs
-	$(BUILD)/fuzz/fuzz -max_total_time=$(FUZZ_SECONDS) -max_len=4096 -print_final_stats=1 -artifact_prefix=$(BUILD)/fuzz/ \
-	    $(BUILD)/fuzz/inputs
+	$(BUILD)/fuzz/fuzz $(FUZZ) $(BUILD)/fuzz/inputs
+	@mkdir -p $(BUILD)/fuzz/table_inputs
+	$(BUILD)/fuzz/table_fuzz $(FUZZ) $(BUILD)/fuzz/table_inputs
 
 # Samba's client and server through the library, on demand: installing Samba may start its service, and a server has to run as root.
 $(BUILD)/plain/reseal: $(BUILD)/plain/reseal.o $(ARCHIVE)
@@ -102,11 +111,11 @@ samba: setup-samba
 	scripts/samba-check $(BUILD)/plain/reseal $(BUILD)/samba
 
 # How much of the archive's code the tests execute, on demand.
-COVERAGE_TESTS = vectors_test lengths_test random_test
+COVERAGE_TESTS = vectors_test lengths_test random_test table_test
 coverage: setup-test
 	@$(MAKE) --no-print-directory $(COVERAGE_TESTS:%=$(BUILD)/plain/%)
 	scripts/archive-coverage $(ARCHIVE) $(BUILD)/coverage $(BUILD)/plain/vectors_test $(BUILD)/plain/lengths_test \
-	    "$(BUILD)/plain/random_test 1 $(VALGRIND_CASES)"
+	    "$(BUILD)/plain/random_test 1 $(VALGRIND_CASES)" "$(BUILD)/plain/table_test 1 $(VALGRIND_LISTS)"
 
 .PHONY: outside outside-tests consistency symbols programs valgrind mutants tshark run-programs run-valgrind run-mutants run-tshark
 .PHONY: fuzz samba coverage

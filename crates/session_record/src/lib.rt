@@ -5,6 +5,7 @@ mod new;
 use answer::Answer;
 use connection::Connection;
 ghost use mathlib.Core.Path.{_≡_};
+ghost use mathlib.Core.Bool.{cond};
 ghost use Rattle.protocol.specs.SessionTable.{sealingKey, openingKey};
 ghost use Rattle.answer.specs.Reading.{answerOf};
 ghost use Rattle.connection.specs.Reading.{flag, roleOf, connectionOf};
@@ -100,26 +101,29 @@ pub fn step_record(s: Session, by: u64) -> Session
     t
 }
 
-// A client seals with the first cipher key, a server with the second.
-fn sealing_key(s: Session, role: u8) -> [u8; 16]
-    ensures { λ r. ⌜ r ≡ sealingKey (roleOf role) (sessionOf s .keys) ⌝ }
+// The key of what a client sends, or of what a server sends.
+fn key_from(s: Session, client: bool) -> [u8; 16]
+    ensures { λ r. ⌜ r ≡ cond client (sessionOf s .keys .clientToServer) (sessionOf s .keys .serverToClient) ⌝ }
 {
-    if role == connection::CLIENT {
+    if client {
         s.client_to_server
     } else {
         s.server_to_client
     }
 }
 
+// A client seals with the first cipher key, a server with the second.
+fn sealing_key(s: Session, role: u8) -> [u8; 16]
+    ensures { λ r. ⌜ r ≡ sealingKey (roleOf role) (sessionOf s .keys) ⌝ }
+{
+    key_from(s, role == connection::CLIENT)
+}
+
 // And opens with the other.
 fn opening_key(s: Session, role: u8) -> [u8; 16]
     ensures { λ r. ⌜ r ≡ openingKey (roleOf role) (sessionOf s .keys) ⌝ }
 {
-    if role == connection::CLIENT {
-        s.server_to_client
-    } else {
-        s.client_to_server
-    }
+    key_from(s, role != connection::CLIENT)
 }
 
 // The session that a message names, 0 where it is too short for a header.

@@ -1,0 +1,22 @@
+/*
+ * Wrong libraries, to see that the tests notice them. Linked with --wrap, so that each call of the library comes to mutants.c or
+ * table_mutants.c first; the environment variable MUTANT names the one fault to make. scripts/mutants runs the tests for each.
+ */
+#ifndef MUTANTS_H
+#define MUTANTS_H
+
+#include <stddef.h>
+#include <stdint.h>
+
+int fault(const char *name);
+
+/* A byte is read and written again: only where that is not allowed can it be noticed. */
+void touch(const void *at);
+
+/* A byte is read. */
+void look(const void *at);
+
+/* What a library that decrypts in place and forgets about it leaves behind. */
+void leave_plaintext(uint16_t dialect, uint16_t cipher, const uint8_t *key, uint8_t *message, size_t message_len);
+
+#endif

@@ -1,0 +1,104 @@
+#include "table_model.h"
+
+#include <string.h>
+
+#include "model.h"
+
+size_t model_table_find(const struct smb3seal_session *table, size_t table_len, uint64_t session_id)
+{
+    for (size_t i = 0; i < table_len; i++)
+        if (table[i].used != 0 && table[i].id == session_id) return i;
+    return table_len;
+}
+
+/* ---- adding and removing */
+
+static size_t first_free(const struct smb3seal_session *table, size_t table_len)
+{
+    size_t i = 0;
+    while (i < table_len && table[i].used != 0) i++;
+    return i;
+}
+
+/* 40, 18 and 19 are those of a derivation whose place for the keys has the right length. */
+uint32_t model_table_add(struct smb3seal_session *table, size_t table_len, struct smb3seal_connection connection, uint64_t session_id,
+                         uint32_t guest, uint32_t anonymous, const uint8_t *material, size_t material_len, const uint8_t *chain,
+                         size_t chain_len)
+{
+    uint8_t keys[64];
+    size_t place = first_free(table, table_len);
+    uint32_t r = model_derive(connection.dialect, material, material_len, chain, chain_len, keys, sizeof keys);
+    if (r != 0) return r;
+    if (session_id == 0) return 20;
+    if (model_table_find(table, table_len, session_id) != table_len) return 21;
+    if (place == table_len) return 22;
+    struct smb3seal_session *s = &table[place];
+    memset(s, 0, sizeof *s);
+    s->id = session_id;
+    s->used = 1;
+    s->guest = guest != 0;
+    s->anonymous = anonymous != 0;
+    memcpy(s->signing, keys, 16);
+    memcpy(s->application, keys + 16, 16);
+    if (s->guest || s->anonymous) return 0;
+    memcpy(s->client_to_server, keys + 32, 16);
+    memcpy(s->server_to_client, keys + 48, 16);
+    return 0;
+}
+
+uint32_t model_table_remove(struct smb3seal_session *table, size_t table_len, uint64_t session_id)
+{
+    size_t i = model_table_find(table, table_len, session_id);
+    if (i == table_len) return 6;
+    memset(&table[i], 0, sizeof table[i]);
+    return 0;
+}
+
+/* ---- sealing and opening */
+
+/* Whether encryption was agreed on. A role that is none, and a byte that no rule knows, mean that nothing was. */
+static uint32_t agreed(struct smb3seal_connection c)
+{
+    return c.encryption != 0 && (c.role == SMB3SEAL_CLIENT || c.role == SMB3SEAL_SERVER) && c.spare == 0;
+}
+
+/* 1, 2 and 3. */
+static uint32_t first_tests(struct smb3seal_connection c, size_t message_len)
+{
+    return model_first_tests(c.dialect, agreed(c), c.cipher, 16, message_len);
+}
+
+/* 6, 7 and 8, on the record at this place. */
+static uint32_t record_tests(const struct smb3seal_session *table, size_t table_len, size_t place, struct smb3seal_connection c)
+{
+    if (place == table_len) return 6;
+    if (c.constrained != 0) return 7;
+    return table[place].guest != 0 || table[place].anonymous != 0 ? 8 : 0;
+}
+
+uint32_t model_table_seal(struct smb3seal_session *table, size_t table_len, struct smb3seal_connection connection,
+                          uint64_t session_id, uint8_t *message, size_t message_len, uint64_t *headers)
+{
+    size_t place = model_table_find(table, table_len, session_id);
+    uint32_t r = first_tests(connection, message_len);
+    if (r == 0) r = record_tests(table, table_len, place, connection);
+    if (r != 0) return r;
+    struct smb3seal_session *s = &table[place];
+    const uint8_t *key = connection.role == SMB3SEAL_CLIENT ? s->client_to_server : s->server_to_client;
+    return model_seal(connection.dialect, 1, connection.cipher, key, 16, session_id, &s->counter, message, message_len, headers);
+}
+
+uint32_t model_table_open(const struct smb3seal_session *table, size_t table_len, struct smb3seal_connection connection,
+                          uint8_t *message, size_t message_len, uint64_t *headers)
+{
+    uint32_t r = first_tests(connection, message_len);
+    if (r == 0) r = model_transform_tests(message);
+    if (r != 0) return r;
+    uint64_t id = model_session_id(message);
+    size_t place = model_table_find(table, table_len, id);
+    r = record_tests(table, table_len, place, connection);
+    if (r != 0) return r;
+    const struct smb3seal_session *s = &table[place];
+    const uint8_t *key = connection.role == SMB3SEAL_CLIENT ? s->server_to_client : s->client_to_server;
+    return model_open(connection.dialect, 1, connection.cipher, key, 16, id, message, message_len, headers);
+}
