@@ -1,7 +1,8 @@
-# make             the archive and the headers, into dist/
+# make             the archive, the headers and the manual page, into dist/
 # make demo        a published session, from negotiate to an opened response, step by step
 # make examples    the examples and the demo, run and compared
-# make packaging   headers, symbols, shared object, install and uninstall, checked
+# make packaging   headers, symbols, shared object, manual page, install and uninstall, packages: checked
+# make package     a tarball and a Debian package, with their checksums, into dist/
 # make rust        the tests of the Rust wrapper
 # make test        the whole gate: rt ci, then the outside tests
 # make consistency pages, lists and vectors agree with each other and with the tree: seconds
@@ -16,7 +17,7 @@ ARCHIVE = target/staticlib/libsmb3seal.a
 PRIMITIVES = target/staticlib/libtest_primitives.a
 BUILD = target/c
 
-all: dist/libsmb3seal.a dist/smb3seal.h dist/smb3seal_text.h
+all: dist/libsmb3seal.a dist/smb3seal.h dist/smb3seal_text.h dist/smb3seal.3
 
 # rt decides by itself what has to be proved again, and runs its own jobs beside each other.
 RATTLE := crates.txt $(shell find crates -name '*.rt' -o -name '*.antt')
@@ -35,6 +36,10 @@ dist/libsmb3seal.a: $(ARCHIVE)
 dist/%.h: include/%.h
 	@mkdir -p dist
 	cp $< $@
+
+dist/%.3: include/%.h packaging/manual
+	@mkdir -p dist
+	packaging/manual $< > $@
 
 $(BUILD)/smb3_vectors.h: scripts/c-vectors vectors/smb3.json
 	@mkdir -p $(BUILD)

@@ -1,6 +1,7 @@
 /*
  * A client and a server that exchange sealed messages over a socket pair, framed as on TCP: a zero byte, three bytes of length, the
- * message. On the way one request is damaged, one arrives twice, two change places, and one is sent back to its sender.
+ * message. On the way one request is damaged, one arrives twice, two change places, and one is sent back to its sender. Each end keeps
+ * its two keys and its counter itself; server.c has the same with session tables.
  *
  * After a number other than 0 a real server disconnects. This one goes on, so that all the answers can be seen.
  */
@@ -18,6 +19,7 @@ enum { SESSION = 0x25, ECHO = 13, ECHO_BYTES = 68, SEALED_BYTES = SMB3SEAL_HEADE
 struct end {
     const char *name;
     int socket;
+    struct smb3seal_connection connection;
     uint8_t seal_key[SMB3SEAL_KEY_BYTES], open_key[SMB3SEAL_KEY_BYTES];
     uint64_t counter;
     unsigned seen[16]; /* at the server: how often each MessageId has come */
@@ -37,8 +39,13 @@ static struct end new_end(const char *name, int socket, int server, const uint8_
     const uint8_t session_key[16] = {1, 2, 3};
     uint8_t chain[SMB3SEAL_CHAIN_BYTES] = {0}, keys[SMB3SEAL_KEYS_BYTES];
     struct end e = {.name = name, .socket = socket};
+    e.connection.dialect = SMB3SEAL_DIALECT_311;
+    e.connection.cipher = SMB3SEAL_CIPHER_AES_128_GCM;
+    e.connection.role = server ? SMB3SEAL_SERVER : SMB3SEAL_CLIENT;
+    e.connection.encryption = 1;
     must(smb3seal_fold(chain, sizeof chain, setup, setup_len) == SMB3SEAL_DONE, "folding");
-    uint32_t answer = smb3seal_derive(SMB3SEAL_DIALECT_311, session_key, sizeof session_key, chain, sizeof chain, keys, sizeof keys);
+    uint32_t answer =
+        smb3seal_connection_derive(e.connection, session_key, sizeof session_key, chain, sizeof chain, keys, sizeof keys);
     must(answer == SMB3SEAL_DONE, "deriving");
     const uint8_t *to_server = keys + SMB3SEAL_CLIENT_TO_SERVER_KEY, *to_client = keys + SMB3SEAL_SERVER_TO_CLIENT_KEY;
     memcpy(e.seal_key, server ? to_client : to_server, SMB3SEAL_KEY_BYTES);
@@ -78,8 +85,9 @@ static void seal_echo(struct end *e, uint8_t message_id, int response, uint8_t m
     inner[24] = message_id;
     inner[40] = SESSION;
     inner[64] = 4;
-    must(smb3seal_seal(SMB3SEAL_DIALECT_311, 1, SMB3SEAL_CIPHER_AES_128_GCM, e->seal_key, SMB3SEAL_KEY_BYTES, SESSION, &e->counter,
-                       message, SEALED_BYTES, &headers) == SMB3SEAL_DONE, "sealing");
+    uint32_t answer = smb3seal_connection_seal(e->connection, e->seal_key, sizeof e->seal_key, SESSION, &e->counter, message,
+                                               SEALED_BYTES, &headers);
+    must(answer == SMB3SEAL_DONE, "sealing");
 }
 
 /* Receives one message and opens it. Returns its MessageId, or 0 where it was refused: then the message is as it arrived. */
@@ -87,8 +95,7 @@ static uint8_t receive(struct end *e, uint8_t *message, size_t room)
 {
     uint64_t headers;
     size_t n = receive_frame(e->socket, message, room);
-    uint32_t answer = smb3seal_open(SMB3SEAL_DIALECT_311, 1, SMB3SEAL_CIPHER_AES_128_GCM, e->open_key, SMB3SEAL_KEY_BYTES, SESSION,
-                                    message, n, &headers);
+    uint32_t answer = smb3seal_connection_open(e->connection, e->open_key, sizeof e->open_key, SESSION, message, n, &headers);
     if (answer != SMB3SEAL_DONE) {
         printf("%s: refused with %u, %s; begins %02X %c%c%c as it arrived\n", e->name, (unsigned)answer, smb3seal_text(answer),
                message[0], message[1], message[2], message[3]);

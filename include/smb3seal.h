@@ -1,22 +1,38 @@
 /*
- * smb3seal: the message protection of SMB 3 (dialects 3.0, 3.0.2 and 3.1.1) under keys that the caller holds.
+ * smb3seal: the message protection of SMB 3 (dialects 3.0, 3.0.2 and 3.1.1).
  *
- * Five functions, in the order in which a connection needs them:
+ * Both interfaces begin with the preauthentication hash value (the chain), message by message:
  *
- *     smb3seal_fold            the preauthentication hash value (the chain), message by message
- *     smb3seal_fold_response   the same for session setup responses
+ *     smb3seal_fold            a negotiate message or a session setup request
+ *     smb3seal_fold_response   a session setup response
+ *
+ * With a session table, an array that the program owns, the library keeps keys and send counters in it and picks the right ones:
+ *
+ *     smb3seal_table_add       a session put into the table, with its four keys
+ *     smb3seal_table_seal      a message made ready to send
+ *     smb3seal_table_open      a received message decrypted, if every check holds
+ *     smb3seal_table_remove    a session taken out, its record zeroed
+ *     smb3seal_table_find      where a session's record is
+ *
+ * Under one key the program keeps keys and counters itself:
+ *
  *     smb3seal_derive          the four keys of a session
  *     smb3seal_seal            a message made ready to send
  *     smb3seal_open            a received message decrypted, if every check holds
  *
- * None allocates, keeps state, locks or calls back: calls on different buffers may run in different threads. Each is total: any
- * numbers, any bytes and any lengths get an answer.
+ * smb3seal_connection_derive, smb3seal_connection_seal and smb3seal_connection_open are the same three for a program that has its
+ * connection as a struct.
  *
- * - A buffer is a pointer and a length in bytes, and may have any alignment. No pointer may be null, also where the length is 0.
- * - Buffers of one call do not overlap, a lent number (counter, headers, folded) lies in none of them, and each pointer has as many
- *   bytes behind it as its length says. The library cannot check this, nor that a counter value is new under its key.
- * - Each function returns SMB3SEAL_DONE (0), or the number of the one reason for which it refused. After a refusal every byte and
- *   every number that was lent is as it was: message, counter, headers, folded, chain, keys.
+ * No function allocates, locks, calls back or keeps anything outside of what it is lent: calls on different buffers may run in
+ * different threads. Each is total: any numbers, any bytes, any table and any lengths get an answer.
+ *
+ * - A buffer is a pointer and a length in bytes, and may have any alignment. A table is a pointer to its first record and the number of
+ *   records. No pointer may be null, also where the length is 0.
+ * - Buffers and table of one call do not overlap, a lent number (counter, headers, folded) lies in none of them, and each pointer has
+ *   as many bytes or records behind it as its length says. The library cannot check this, nor that a counter value is new under its
+ *   key, nor that a table is the one that the call before left.
+ * - Each function but smb3seal_table_find returns SMB3SEAL_DONE (0), or the number of the one reason for which it refused. After a
+ *   refusal every byte and every number that was lent is as it was: message, table, counter, headers, folded, chain, keys.
  * - Where several reasons apply, SMB3SEAL_BAD_LENGTH comes first and then the lowest number wins, except inside the walk over the
  *   headers of a compounded message, which ends at the first header that breaks a rule.
  *
@@ -42,12 +58,17 @@ extern "C" {
  * was refused (another cipher, a longer message) or refuse what was accepted (another check), and its notes say which. Until 1.0 a
  * minor version may also give a function other parameters; their number then changes, so that an old call does not compile. From
  * 1.0 on, that takes a new major version.
+ *
+ * Later versions add fields to struct smb3seal_session (the size of its keys, further channels), and until 1.0 a minor version may make
+ * it larger. So header and archive are of one version, all parts of a program that share a table are compiled with one header, and a
+ * table lives in memory alone: it is not stored and not sent. The spare bytes of a record that the library makes are 0. The spare byte
+ * of a struct smb3seal_connection must be 0, so that it can get a meaning.
  */
 
 #define SMB3SEAL_VERSION_MAJOR 0
-#define SMB3SEAL_VERSION_MINOR 1
+#define SMB3SEAL_VERSION_MINOR 2
 #define SMB3SEAL_VERSION_PATCH 0
-#define SMB3SEAL_VERSION "0.1.0"
+#define SMB3SEAL_VERSION "0.2.0"
 
 /* ---- dialects and ciphers, as MS-SMB2 numbers them */
 
@@ -86,8 +107,8 @@ extern "C" {
  * opening, 1 to 16   A server disconnects without an answer (MS-SMB2 3.3.5.2.1.1, 3.3.7.1). A client must not use the message
  *                    either: it disconnects, or discards the message and leaves the request unanswered. The transports of SMB
  *                    deliver bytes whole and in order, so a refusal is a fault or an attack, never noise.
- * sealing, 1 to 16   A fault of the program: it made a message, or names a connection, that no peer would accept. Send nothing,
- *                    least of all the inner message in clear.
+ * sealing, 1 to 16   A fault of the program: it made a message, or names a connection or a session, that no peer would accept. Send
+ *                    nothing, least of all the inner message in clear.
  * 17 to 40           As its line says, for both roles.
  *
  * An answer says nothing about keys or plaintext beyond the rule that was broken, and may be logged.
@@ -103,9 +124,11 @@ extern "C" {
 #define SMB3SEAL_TOO_LONG 3      /* more than 1,048,576 bytes behind the transform header */
 #define SMB3SEAL_NOT_TRANSFORM 4 /* the message does not begin FD 53 4D 42: it is not sealed, so the program should not open it */
 #define SMB3SEAL_BAD_FLAGS 5     /* the transform header's Flags are not 0x0001 */
-#define SMB3SEAL_OTHER_SESSION 6 /* the transform header's SessionId is not the session's; to find no such session is the same case */
+#define SMB3SEAL_OTHER_SESSION 6 /* the transform header's SessionId is not the session's; with a session table, no used record has the id */
 
-/* 7 and 8 belong to calls with a session table. No function here answers them. */
+/* The session of the table. Messages of such a connection or session are not sealed at all. */
+#define SMB3SEAL_CONSTRAINED 7 /* the connection is constrained */
+#define SMB3SEAL_GUEST 8       /* the session is guest or anonymous */
 
 /* The message under its key. */
 #define SMB3SEAL_BAD_TAG 9   /* the tag differs: the message, its header or the key is not the sender's */
@@ -122,16 +145,19 @@ extern "C" {
 /* Sealing. End the session and set up a new one, with new keys and counter 0. A reauthentication does not promise new keys. */
 #define SMB3SEAL_COUNTER_USED_UP 17 /* the counter is 2^64 - 1: this key must not seal any more */
 
-/* Deriving. Do not finish the session's setup; a client fails the logon, a server disconnects. */
+/* Deriving and adding. Do not finish the session's setup; a client fails the logon, a server disconnects. */
 #define SMB3SEAL_UNKNOWN_DIALECT 18 /* the dialect is not one of the three: a fault of the program */
 #define SMB3SEAL_NO_KEY_MATERIAL 19 /* the key material is empty: the authentication gave no session key */
 
-/* 20, 21 and 22 belong to calls with a session table. No function here answers them. */
+/* Adding. Do not finish the session's setup; 20, 21: a server takes another id, a client disconnects; 22: refuse the logon. */
+#define SMB3SEAL_ID_ZERO 20    /* the id of the session to add is 0 */
+#define SMB3SEAL_ID_TAKEN 21   /* a used record has the id of the session to add */
+#define SMB3SEAL_TABLE_FULL 22 /* no record is free for the session to add */
 
 /* Folding. Disconnect: no negotiate or session setup message has such a length. */
 #define SMB3SEAL_FOLD_LENGTH 23 /* the message has under 64 or over 1,048,576 bytes */
 
-/* Every function. A fault of the program, on every dialect. */
+/* Lengths that are fixed. A fault of the program, on every dialect. */
 #define SMB3SEAL_BAD_LENGTH 40 /* a key is not 16, a chain value not 64, or the place for the keys not 64 bytes long */
 
 /* ---- functions */
@@ -209,43 +235,164 @@ uint32_t smb3seal_seal(uint16_t dialect, uint32_t encryption, uint16_t cipher, c
 uint32_t smb3seal_open(uint16_t dialect, uint32_t encryption, uint16_t cipher, const uint8_t *key, size_t key_len,
                        uint64_t session_id, uint8_t *message, size_t message_len, uint64_t *headers);
 
-/* ---- the session table */
+/*
+ * ---- the connection
+ *
+ * What a connection agreed on, named once and handed over by value. There is no padding, and every byte counts: fill it from {0}.
+ */
 
-/* What a connection agreed on. Handed over by value, and every byte of it counts: begin with {0}. */
 struct smb3seal_connection {
     uint16_t dialect;    /* SMB3SEAL_DIALECT_.. */
     uint16_t cipher;     /* SMB3SEAL_CIPHER_..; below 3.1.1 any number but 0 means AES-128-CCM */
-    uint8_t role;        /* SMB3SEAL_CLIENT or SMB3SEAL_SERVER: this end's; with any other number nothing counts as agreed: number 1 */
+    uint8_t role;        /* this end's: SMB3SEAL_CLIENT or SMB3SEAL_SERVER; any other number counts as encryption off: 1 */
     uint8_t encryption;  /* 0 for off, anything else for on */
-    uint8_t constrained; /* 0 for no, anything else for yes: number 7 */
-    uint8_t spare;       /* 0; with any other number nothing counts as agreed: number 1 */
+    uint8_t constrained; /* Connection.ConstrainedConnection; 0 for no, anything else for yes: 7, with a session table alone */
+    uint8_t spare;       /* 0; any other number counts as encryption off: 1 */
 };
 
-/* A record of the table. Any bytes are a record, and zero bytes a free one. */
+/* The `encryption` of a call under one key: a stray byte in role or spare turns it off, as it does with a session table. */
+static inline uint32_t smb3seal_connection_encryption(struct smb3seal_connection connection)
+{
+    return connection.encryption != 0 && connection.role <= SMB3SEAL_SERVER && connection.spare == 0;
+}
+
+/*
+ * smb3seal_derive with the dialect of the connection. A later version takes the cipher from it too.
+ *
+ * Answers 0, or 40, 18, 19.
+ */
+static inline uint32_t smb3seal_connection_derive(struct smb3seal_connection connection, const uint8_t *material, size_t material_len,
+                                                  const uint8_t *chain, size_t chain_len, uint8_t *keys, size_t keys_len)
+{
+    return smb3seal_derive(connection.dialect, material, material_len, chain, chain_len, keys, keys_len);
+}
+
+/*
+ * smb3seal_seal with the dialect, encryption and cipher of the connection. The key is the caller's choice: on a client the one at
+ * SMB3SEAL_CLIENT_TO_SERVER_KEY, on a server the other. Whether the connection is constrained is not looked at.
+ *
+ * Answers 0, or 40, 1, 2, 3, 11 to 16, 17.
+ */
+static inline uint32_t smb3seal_connection_seal(struct smb3seal_connection connection, const uint8_t *key, size_t key_len,
+                                                uint64_t session_id, uint64_t *counter, uint8_t *message, size_t message_len,
+                                                uint64_t *headers)
+{
+    return smb3seal_seal(connection.dialect, smb3seal_connection_encryption(connection), connection.cipher, key, key_len, session_id,
+                         counter, message, message_len, headers);
+}
+
+/*
+ * smb3seal_open with the dialect, encryption and cipher of the connection. The key is that of the other direction.
+ *
+ * Answers 0, or 40, 1 to 6, 9 to 16.
+ */
+static inline uint32_t smb3seal_connection_open(struct smb3seal_connection connection, const uint8_t *key, size_t key_len,
+                                                uint64_t session_id, uint8_t *message, size_t message_len, uint64_t *headers)
+{
+    return smb3seal_open(connection.dialect, smb3seal_connection_encryption(connection), connection.cipher, key, key_len, session_id,
+                         message, message_len, headers);
+}
+
+/*
+ * ---- the session table
+ *
+ * A table is an array of records that the caller owns. A table of zero bytes is an empty one:
+ *
+ *     struct smb3seal_session table[16] = {{0}};
+ *
+ * A record has no padding, and a flag is a byte of which 0 is no and anything else yes. So any bytes are a table: whatever is lent gets
+ * an answer, and none is undefined. A session's record is the first used one with its id.
+ *
+ * Read a record as you like; what writes it is the library. A table is for one end: a program that is client and server has two. It
+ * may serve one connection or several. smb3seal_table_find and smb3seal_table_open only read it, and may run in several threads at
+ * once; the other calls need it to themselves, by a lock of the caller's. No copy of a table may go on beside it, and none may take its
+ * place again: that seals twice with one counter value under one key.
+ */
+
 struct smb3seal_session {
-    uint64_t id;
-    uint64_t counter; /* the next nonce of this end's sealing key */
-    uint8_t signing[16];
-    uint8_t application[16];
-    uint8_t client_to_server[16];
-    uint8_t server_to_client[16];
-    uint8_t used;      /* 0 for a free record, anything else for a session's */
-    uint8_t guest;     /* 0 for no, anything else for yes */
-    uint8_t anonymous; /* 0 for no, anything else for yes */
-    uint8_t spare[5];
+    uint64_t id;                  /* the SessionId */
+    uint64_t counter;             /* the next nonce of this end's sealing key */
+    uint8_t signing[16];          /* the keys that smb3seal_derive writes, in its order */
+    uint8_t application[16];      /* for the application above */
+    uint8_t client_to_server[16]; /* 16 zero bytes where the session is guest or anonymous */
+    uint8_t server_to_client[16]; /* 16 zero bytes where the session is guest or anonymous */
+    uint8_t used;                 /* 0 for a free record, anything else for a session's */
+    uint8_t guest;                /* 0 for no, anything else for yes */
+    uint8_t anonymous;            /* 0 for no, anything else for yes */
+    uint8_t spare[5];             /* the library writes 0, and does not look at them */
 };
 
+/*
+ * Finds a session. Returns the place of its record in the table, from 0 on, or table_len where no used record has the id. What the
+ * program keeps of a session itself can stand at the same place in an array beside the table.
+ *
+ * table       reads: table_len records
+ * session_id  the session; of several used records with its id, the first counts
+ */
 size_t smb3seal_table_find(const struct smb3seal_session *table, size_t table_len, uint64_t session_id);
 
+/*
+ * Adds a session. The first free record gets its id, counter 0, the four keys that smb3seal_derive gives, used 1, both marks as 0 or 1,
+ * and spare bytes of 0. If either mark is set, its cipher keys are zero bytes, and nothing can be sealed or opened for it.
+ *
+ * table       reads and writes: table_len records; all but the one that is filled stay as they are
+ * connection  its dialect counts, and nothing else; a later version looks at the cipher too
+ * session_id  the SessionId that the server chose, not 0
+ * guest       0 for no, anything else for yes
+ * anonymous   0 for no, anything else for yes
+ * material    reads: the session key of the authentication, as for smb3seal_derive
+ * chain       reads: the session's preauthentication hash value, as for smb3seal_derive
+ *
+ * Each login has key material of its own. A session that is removed and added again from the same material and chain begins again at
+ * counter 0, under the same keys: that seals twice with one counter value under one key.
+ *
+ * Answers 0, or 40, 18 to 22.
+ */
 uint32_t smb3seal_table_add(struct smb3seal_session *table, size_t table_len, struct smb3seal_connection connection,
                             uint64_t session_id, uint32_t guest, uint32_t anonymous, const uint8_t *material, size_t material_len,
                             const uint8_t *chain, size_t chain_len);
 
+/*
+ * Removes a session. All bytes of its record become 0, the keys among them, and the record is free.
+ *
+ * table       reads and writes: table_len records; the others stay as they are
+ * session_id  the session
+ *
+ * Answers 0, or 6.
+ */
 uint32_t smb3seal_table_remove(struct smb3seal_session *table, size_t table_len, uint64_t session_id);
 
+/*
+ * Seals in place, for a session of the table: with its counter, and the key with which the connection's role seals. Afterwards the
+ * message, of the same length, is ready to send.
+ *
+ * table       reads, and writes one more to the counter of the session's record; every other byte stays as it is
+ * connection  what the connection agreed on
+ * session_id  the session, written to the transform header; the inner headers must carry it (a related one behind the first need not)
+ * message     reads and writes: SMB3SEAL_HEADER_BYTES of room, of any content, and behind them the inner message: one SMB 2 message
+ *             or a compound of them
+ * headers     writes: the number of inner headers
+ *
+ * Answers 0, or 1, 2, 3, 6, 7, 8, 11 to 16, 17.
+ */
 uint32_t smb3seal_table_seal(struct smb3seal_session *table, size_t table_len, struct smb3seal_connection connection,
                              uint64_t session_id, uint8_t *message, size_t message_len, uint64_t *headers);
 
+/*
+ * Opens in place, for the session of the table that the transform header names (bytes 44..52, little-endian), with the key with which
+ * the connection's role opens. Afterwards the first 52 bytes are the transform header as received, and the rest is the plaintext. After
+ * a refusal the message is as received: no byte of plaintext is left in it.
+ *
+ * table       reads: table_len records
+ * connection  what the connection agreed on
+ * message     reads and writes: the whole received message, without the transport's length field
+ * headers     writes: the number of inner headers
+ *
+ * A sealed message that arrives twice opens twice. Whether its MessageId was seen before is for the caller to check, and where a table
+ * serves several connections, whether its session belongs to the one by which it came.
+ *
+ * Answers 0, or 1 to 16.
+ */
 uint32_t smb3seal_table_open(const struct smb3seal_session *table, size_t table_len, struct smb3seal_connection connection,
                              uint8_t *message, size_t message_len, uint64_t *headers);
 

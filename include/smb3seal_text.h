@@ -16,7 +16,9 @@ static inline const char *smb3seal_text(uint32_t number)
     case SMB3SEAL_TOO_LONG: return "the message is longer than 1,048,576 bytes behind its transform header";
     case SMB3SEAL_NOT_TRANSFORM: return "the message does not begin with a transform header";
     case SMB3SEAL_BAD_FLAGS: return "the transform header's Flags are not 0x0001";
-    case SMB3SEAL_OTHER_SESSION: return "the transform header names another session";
+    case SMB3SEAL_OTHER_SESSION: return "the transform header names another session, or the table has no session of this id";
+    case SMB3SEAL_CONSTRAINED: return "the connection is constrained";
+    case SMB3SEAL_GUEST: return "the session is guest or anonymous";
     case SMB3SEAL_BAD_TAG: return "the tag differs";
     case SMB3SEAL_BAD_SIZE: return "OriginalMessageSize differs from the message's size";
     case SMB3SEAL_INNER_TOO_SHORT: return "the inner message is shorter than a header";
@@ -28,6 +30,9 @@ static inline const char *smb3seal_text(uint32_t number)
     case SMB3SEAL_COUNTER_USED_UP: return "the send counter is used up: end the session and set up a new one";
     case SMB3SEAL_UNKNOWN_DIALECT: return "the dialect is none of 3.0, 3.0.2 and 3.1.1";
     case SMB3SEAL_NO_KEY_MATERIAL: return "the key material is empty";
+    case SMB3SEAL_ID_ZERO: return "the id of the session to add is 0";
+    case SMB3SEAL_ID_TAKEN: return "a session with this id is in the table";
+    case SMB3SEAL_TABLE_FULL: return "the session table is full";
     case SMB3SEAL_FOLD_LENGTH: return "a message to fold has under 64 or over 1,048,576 bytes";
     case SMB3SEAL_BAD_LENGTH: return "a lent key, chain value or place for keys has the wrong length";
     default: return "unknown number";

@@ -1,20 +1,23 @@
-# make install, uninstall     PREFIX, LIBDIR, INCLUDEDIR, DESTDIR
-# make packaging              headers, symbols, shared object, install and uninstall: all checked
+# make install, uninstall     PREFIX, LIBDIR, INCLUDEDIR, MANDIR, DESTDIR
+# make package                a tarball and a Debian package of what `make` built, with their checksums, into dist/
+# make packaging              headers, symbols, shared object, manual page, install and uninstall, packages: all checked
 # make rust                   the Rust wrapper, against dist/
 
 PREFIX ?= /usr/local
 LIBDIR ?= $(PREFIX)/lib
 INCLUDEDIR ?= $(PREFIX)/include
+MANDIR ?= $(PREFIX)/share/man
 
 HEADERS = smb3seal.h smb3seal_text.h
-INSTALLED = $(HEADERS:%=$(INCLUDEDIR)/%) $(LIBDIR)/libsmb3seal.a $(LIBDIR)/pkgconfig/smb3seal.pc
+INSTALLED = $(HEADERS:%=$(INCLUDEDIR)/%) $(LIBDIR)/libsmb3seal.a $(LIBDIR)/pkgconfig/smb3seal.pc $(MANDIR)/man3/smb3seal.3
 
 # Copies what `make` built, so that it can be run by a user who has no rt.
 install:
-	@test -f dist/libsmb3seal.a || $(MAKE) --no-print-directory all
-	install -d $(DESTDIR)$(INCLUDEDIR) $(DESTDIR)$(LIBDIR)/pkgconfig
+	@test -f dist/libsmb3seal.a -a -f dist/smb3seal.3 || $(MAKE) --no-print-directory all
+	install -d -m 755 $(DESTDIR)$(INCLUDEDIR) $(DESTDIR)$(LIBDIR)/pkgconfig $(DESTDIR)$(MANDIR)/man3
 	install -m 644 $(HEADERS:%=dist/%) $(DESTDIR)$(INCLUDEDIR)
 	install -m 644 dist/libsmb3seal.a $(DESTDIR)$(LIBDIR)
+	install -m 644 dist/smb3seal.3 $(DESTDIR)$(MANDIR)/man3
 	version=$$(sed -n 's/^#define SMB3SEAL_VERSION "\(.*\)"/\1/p' dist/smb3seal.h) && \
 	sed -e 's|@PREFIX@|$(PREFIX)|' -e 's|@LIBDIR@|$(LIBDIR)|' -e 's|@INCLUDEDIR@|$(INCLUDEDIR)|' -e "s|@VERSION@|$$version|" \
 		packaging/smb3seal.pc.in > $(DESTDIR)$(LIBDIR)/pkgconfig/smb3seal.pc
@@ -23,12 +26,17 @@ install:
 uninstall:
 	rm -f $(INSTALLED:%=$(DESTDIR)%)
 
+package: all
+	packaging/package dist
+
 packaging: setup-build all
 	@packaging/check-headers include/smb3seal.h include/smb3seal_text.h
 	@packaging/check-archive dist/libsmb3seal.a include/smb3seal.h
+	@packaging/check-manual dist/smb3seal.3 include/smb3seal.h
 	@scripts/test-with "install and uninstall" pkgconf -- packaging/check-install
+	@scripts/test-with "the packages" pkgconf dpkg -- packaging/check-package
 
 rust: all
 	@scripts/test-with "the Rust wrapper" cargo -- packaging/check-rust
 
-.PHONY: install uninstall packaging rust
+.PHONY: install uninstall package packaging rust

@@ -1,4 +1,29 @@
-//! The functions of include/smb3seal.h.
+//! The structs and functions of include/smb3seal.h. `tests/table.rs` compares the structs with the header's.
+
+#[derive(Clone, Copy)]
+#[repr(C)]
+pub struct Connection {
+    pub dialect: u16,
+    pub cipher: u16,
+    pub role: u8,
+    pub encryption: u8,
+    pub constrained: u8,
+    pub spare: u8,
+}
+
+#[repr(C)]
+pub struct Session {
+    pub id: u64,
+    pub counter: u64,
+    pub signing: [u8; 16],
+    pub application: [u8; 16],
+    pub client_to_server: [u8; 16],
+    pub server_to_client: [u8; 16],
+    pub used: u8,
+    pub guest: u8,
+    pub anonymous: u8,
+    pub spare: [u8; 5],
+}
 
 extern "C" {
     pub fn smb3seal_fold(
@@ -42,6 +67,38 @@ extern "C" {
         key: *const u8,
         key_len: usize,
         session_id: u64,
+        message: *mut u8,
+        message_len: usize,
+        headers: *mut u64,
+    ) -> u32;
+
+    pub fn smb3seal_table_find(table: *const Session, table_len: usize, session_id: u64) -> usize;
+    pub fn smb3seal_table_add(
+        table: *mut Session,
+        table_len: usize,
+        connection: Connection,
+        session_id: u64,
+        guest: u32,
+        anonymous: u32,
+        material: *const u8,
+        material_len: usize,
+        chain: *const u8,
+        chain_len: usize,
+    ) -> u32;
+    pub fn smb3seal_table_remove(table: *mut Session, table_len: usize, session_id: u64) -> u32;
+    pub fn smb3seal_table_seal(
+        table: *mut Session,
+        table_len: usize,
+        connection: Connection,
+        session_id: u64,
+        message: *mut u8,
+        message_len: usize,
+        headers: *mut u64,
+    ) -> u32;
+    pub fn smb3seal_table_open(
+        table: *const Session,
+        table_len: usize,
+        connection: Connection,
         message: *mut u8,
         message_len: usize,
         headers: *mut u64,

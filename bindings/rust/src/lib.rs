@@ -1,19 +1,23 @@
 //! The message protection of SMB 3: the preauthentication hash value, the four keys, sealing and opening in place.
 //!
-//! A thin, safe layer over the five functions of `libsmb3seal.a`, which are proved for all inputs. What the C header asks of a
-//! caller (no overlap, lengths that are true, no null pointer) holds here by the types; lengths of keys and hash values are part of
-//! their types too, so that number 40 does not arise.
+//! A thin, safe layer over the functions of `libsmb3seal.a`, which are proved for all inputs. What the C header asks of a caller (no
+//! overlap, lengths that are true, no null pointer) holds here by the types; lengths of keys and hash values are part of their types
+//! too, so that number 40 does not arise.
+//!
+//! With a session [`Table`] the library keeps keys and counters and picks the right ones. Under one key ([`seal`], [`open`]) that is
+//! the caller's part; a [`Sealer`] keeps one counter.
 //!
 //! Each call answers, or refuses with the one number that says why. After a refusal every byte and every number that was lent is
 //! as it was.
 //!
 //! ```
-//! use smb3seal::{open, Chain, Cipher, Dialect, Keys, Protection, Sealer};
+//! use smb3seal::{Chain, Cipher, Connection, Dialect, Login, Protection, Role, Table};
 //!
 //! # fn main() -> Result<(), smb3seal::Refusal> {
 //! let mut chain = Chain::fresh();
 //! chain.fold(&[0; 64])?; // each negotiate and session setup message in turn
-//! let keys = Keys::derive(Dialect::SMB_3_1_1, b"the session key!", &chain)?;
+//! let agreed = Protection::on(Dialect::SMB_3_1_1, Cipher::AES_128_GCM);
+//! let login = Login::new(7, b"the session key!", &chain);
 //!
 //! // 52 bytes of room, then an ECHO request (command 13) of session 7
 //! let mut message = [0; smb3seal::HEADER_BYTES + 68];
@@ -22,24 +26,30 @@
 //! message[92] = 7;
 //! message[116] = 4;
 //!
-//! let connection = Protection::on(Dialect::SMB_3_1_1, Cipher::AES_128_GCM);
-//! let mut client = Sealer::new(connection, keys.client_to_server, 7);
-//! assert_eq!(client.seal(&mut message)?, 1); // one inner header
+//! let (mut client, connection) = (Table::<1>::new(), Connection::new(Role::Client, agreed));
+//! client.add(&connection, &login)?;
+//! assert_eq!(client.seal(&connection, 7, &mut message)?, 1); // one inner header
 //! assert_eq!(&message[..4], b"\xFDSMB");
 //!
-//! assert_eq!(open(&connection, &keys.client_to_server, 7, &mut message)?, 1);
+//! let (mut server, connection) = (Table::<16>::new(), Connection::new(Role::Server, agreed));
+//! server.add(&connection, &login)?;
+//! assert_eq!(server.open(&connection, &mut message)?.session_id, 7);
 //! assert_eq!(message[64], 13);
 //! # Ok(())
 //! # }
 //! ```
 #![warn(missing_docs)]
 
+mod connection;
 mod ffi;
 mod refusal;
 mod sealer;
+mod table;
 
+pub use connection::{Connection, Role};
 pub use refusal::Refusal;
 pub use sealer::Sealer;
+pub use table::{Login, Opened, Session, Sessions, Table};
 
 use std::fmt;
 

@@ -33,7 +33,9 @@ refusals! {
     TOO_LONG = 3, "the message is longer than 1,048,576 bytes behind its transform header";
     NOT_TRANSFORM = 4, "the message does not begin with a transform header";
     BAD_FLAGS = 5, "the transform header's Flags are not 0x0001";
-    OTHER_SESSION = 6, "the transform header names another session";
+    OTHER_SESSION = 6, "the transform header names another session, or the table has no session of this id";
+    CONSTRAINED = 7, "the connection is constrained";
+    GUEST = 8, "the session is guest or anonymous";
     BAD_TAG = 9, "the tag differs";
     BAD_SIZE = 10, "OriginalMessageSize differs from the message's size";
     INNER_TOO_SHORT = 11, "the inner message is shorter than a header";
@@ -45,6 +47,9 @@ refusals! {
     COUNTER_USED_UP = 17, "the send counter is used up: end the session and set up a new one";
     UNKNOWN_DIALECT = 18, "the dialect is none of 3.0, 3.0.2 and 3.1.1";
     NO_KEY_MATERIAL = 19, "the key material is empty";
+    ID_ZERO = 20, "the id of the session to add is 0";
+    ID_TAKEN = 21, "a session with this id is in the table";
+    TABLE_FULL = 22, "the session table is full";
     FOLD_LENGTH = 23, "a message to fold has under 64 or over 1,048,576 bytes";
     BAD_LENGTH = 40, "a lent key, chain value or place for keys has the wrong length";
 }

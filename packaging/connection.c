@@ -1,0 +1,80 @@
+/*
+ * The functions of smb3seal.h that take a connection, compiled as C and as C++: each does what the call under one key does with the
+ * connection's numbers, and a stray byte in role or spare turns encryption off there as it does with a session table.
+ */
+#include <smb3seal.h>
+#include <stdio.h>
+#include <string.h>
+
+enum { SEALED_BYTES = SMB3SEAL_HEADER_BYTES + 68, SESSION = 7 };
+
+static unsigned failures, sealed;
+static uint8_t keys[SMB3SEAL_KEYS_BYTES];
+static struct smb3seal_session table[1];
+
+static void expect(int holds, const char *what, struct smb3seal_connection c)
+{
+    if (holds) return;
+    failures++;
+    printf("connection: %s: dialect %x, cipher %u, role %u, encryption %u, spare %u\n", what, (unsigned)c.dialect, (unsigned)c.cipher,
+           (unsigned)c.role, (unsigned)c.encryption, (unsigned)c.spare);
+}
+
+static void make(uint8_t *message)
+{
+    memset(message, 0, SEALED_BYTES);
+    memcpy(message + 52, "\xFESMB", 4);
+    message[92] = SESSION;
+}
+
+/* Sealed and opened by the connection, by its numbers and by the table: three times the same. */
+static void compare(struct smb3seal_connection c, uint32_t on)
+{
+    const uint8_t *key = keys + (c.role == SMB3SEAL_SERVER ? SMB3SEAL_SERVER_TO_CLIENT_KEY : SMB3SEAL_CLIENT_TO_SERVER_KEY);
+    uint8_t one[SEALED_BYTES], two[SEALED_BYTES], three[SEALED_BYTES];
+    uint64_t counter_one = 5, counter_two = 5, headers_one = 9, headers_two = 9, headers_three = 9;
+    make(one), make(two), make(three);
+    table[0].counter = 5;
+    uint32_t answer = smb3seal_connection_seal(c, key, 16, SESSION, &counter_one, one, sizeof one, &headers_one);
+    uint32_t plain = smb3seal_seal(c.dialect, on, c.cipher, key, 16, SESSION, &counter_two, two, sizeof two, &headers_two);
+    uint32_t by_table = smb3seal_table_seal(table, 1, c, SESSION, three, sizeof three, &headers_three);
+    expect(answer == plain && answer == by_table, "sealing answers", c);
+    expect(memcmp(one, two, sizeof one) == 0 && memcmp(one, three, sizeof one) == 0, "sealing writes", c);
+    expect(counter_one == counter_two && counter_one == table[0].counter, "the counter", c);
+    expect(headers_one == headers_two && headers_one == headers_three, "the headers", c);
+    if (answer != SMB3SEAL_DONE) return;
+    sealed++;
+    answer = smb3seal_connection_open(c, key, 16, SESSION, one, sizeof one, &headers_one);
+    plain = smb3seal_open(c.dialect, on, c.cipher, key, 16, SESSION, two, sizeof two, &headers_two);
+    expect(answer == SMB3SEAL_DONE && plain == SMB3SEAL_DONE && memcmp(one, two, sizeof one) == 0, "opening", c);
+}
+
+static void derive(struct smb3seal_connection c)
+{
+    const uint8_t material[16] = {1, 2, 3}, chain[SMB3SEAL_CHAIN_BYTES] = {4, 5};
+    uint8_t others[SMB3SEAL_KEYS_BYTES];
+    uint32_t answer = smb3seal_connection_derive(c, material, sizeof material, chain, sizeof chain, keys, sizeof keys);
+    uint32_t plain = smb3seal_derive(c.dialect, material, sizeof material, chain, sizeof chain, others, sizeof others);
+    memset(table, 0, sizeof table);
+    uint32_t added = smb3seal_table_add(table, 1, c, SESSION, 0, 0, material, sizeof material, chain, sizeof chain);
+    expect(answer == SMB3SEAL_DONE && plain == answer && added == answer && memcmp(keys, others, sizeof keys) == 0, "deriving", c);
+}
+
+int main(void)
+{
+    const uint16_t dialects[] = {SMB3SEAL_DIALECT_300, SMB3SEAL_DIALECT_302, SMB3SEAL_DIALECT_311};
+    for (unsigned i = 0; i < 3 * 4; i++) {
+        struct smb3seal_connection c = {dialects[i / 4], (uint16_t)(i % 4), SMB3SEAL_CLIENT, 1, 0, 0};
+        derive(c);
+        for (unsigned byte = 0; byte < 256; byte++) {
+            c.role = (uint8_t)byte, compare(c, byte <= SMB3SEAL_SERVER), c.role = SMB3SEAL_CLIENT;
+            c.encryption = (uint8_t)byte, compare(c, byte), c.encryption = 1;
+            c.spare = (uint8_t)byte, compare(c, byte == 0), c.spare = 0;
+        }
+        struct smb3seal_connection off = {c.dialect, c.cipher, SMB3SEAL_CLIENT, 0, 0, 0}, unlike = {0x0210, c.cipher, SMB3SEAL_CLIENT, 1, 0, 0};
+        compare(off, 0);
+        compare(unlike, 1);
+    }
+    printf("calls with a connection do as those with numbers: %u sealed, %u differ\n", sealed, failures);
+    return failures == 0 && sealed > 1000 ? 0 : 1;
+}
