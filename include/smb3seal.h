@@ -117,7 +117,7 @@ extern "C" {
 #define SMB3SEAL_DONE 0
 
 /* The connection. Opening: the peer sealed where nothing was agreed, or the program lends the wrong dialect or cipher. */
-#define SMB3SEAL_NOT_ENCRYPTING 1 /* unknown dialect, encryption off, cipher 0, or on 3.1.1 a cipher other than 1 or 2 */
+#define SMB3SEAL_NOT_ENCRYPTING 1 /* unknown dialect or role, encryption off, cipher 0, or on 3.1.1 a cipher other than 1 or 2 */
 
 /* The message as it arrived, before any decryption. */
 #define SMB3SEAL_TOO_SHORT 2     /* the whole message has at most 52 bytes */
@@ -138,7 +138,7 @@ extern "C" {
 #define SMB3SEAL_INNER_TOO_SHORT 11 /* the inner message has less than 64 bytes */
 #define SMB3SEAL_NOT_HEADER 12      /* an inner header does not begin FE 53 4D 42 */
 #define SMB3SEAL_FIRST_RELATED 13   /* the first inner header has the related flag */
-#define SMB3SEAL_INNER_SESSION 14   /* an inner SessionId differs from the session's, and its header is the first or not related */
+#define SMB3SEAL_INNER_SESSION 14   /* an inner SessionId differs from the session's; that of a related later header or a server's break notice may */
 #define SMB3SEAL_NEXT_OUTSIDE 15    /* NextCommand is under 64, or the next header is not wholly inside */
 #define SMB3SEAL_NEXT_UNALIGNED 16  /* NextCommand is not a multiple of 8 */
 
@@ -202,11 +202,13 @@ uint32_t smb3seal_derive(uint16_t dialect, const uint8_t *material, size_t mater
 /*
  * Seals in place. Afterwards the message, of the same length, is ready to send.
  *
+ * role        this end's: SMB3SEAL_CLIENT or SMB3SEAL_SERVER; any other number counts as encryption off: 1. It does not choose the key
  * dialect     SMB3SEAL_DIALECT_..
  * encryption  0 for off, anything else for on
  * cipher      SMB3SEAL_CIPHER_..; below 3.1.1 any number but 0 means AES-128-CCM
  * key         reads: SMB3SEAL_KEY_BYTES, the key of this direction
- * session_id  written to the transform header; the inner headers must carry it (a related one behind the first need not)
+ * session_id  written to the transform header; the inner headers must carry it (a related one behind the first need not, nor a break
+ *             notice that a server seals)
  * counter     reads, and writes one more: the send counter of this key, which becomes the nonce. Start it at 0 for a new key, keep
  *             what is handed back, and never seal twice under one key with one value: it loses secrecy, and under GCM the tag's worth
  * message     reads and writes: SMB3SEAL_HEADER_BYTES of room, of any content, and behind them the inner message: one SMB 2 message
@@ -215,24 +217,25 @@ uint32_t smb3seal_derive(uint16_t dialect, const uint8_t *material, size_t mater
  *
  * Answers 0, or 40, 1, 2, 3, 11 to 16, 17.
  */
-uint32_t smb3seal_seal(uint16_t dialect, uint32_t encryption, uint16_t cipher, const uint8_t *key, size_t key_len,
+uint32_t smb3seal_seal(uint32_t role, uint16_t dialect, uint32_t encryption, uint16_t cipher, const uint8_t *key, size_t key_len,
                        uint64_t session_id, uint64_t *counter, uint8_t *message, size_t message_len, uint64_t *headers);
 
 /*
  * Opens in place. Afterwards the first 52 bytes are the transform header as received, and the rest is the plaintext. After a refusal
  * the message is as received: no byte of plaintext is left in it.
  *
- * dialect, encryption, cipher   as for smb3seal_seal
+ * role, dialect, encryption, cipher   as for smb3seal_seal; the role is that of the end that opens
  * key         reads: SMB3SEAL_KEY_BYTES, the key of the other direction
  * session_id  the session that the caller looked up by the header's SessionId (bytes 44..52, little-endian)
  * message     reads and writes: the whole received message, without the transport's length field
  * headers     writes: the number of inner headers
  *
- * A sealed message that arrives twice opens twice. Whether its MessageId was seen before is for the caller to check.
+ * A sealed message that arrives twice opens twice. Whether its MessageId was seen before is for the caller to check, but for a break
+ * notice, which has none of its own.
  *
  * Answers 0, or 40, 1 to 6, 9 to 16.
  */
-uint32_t smb3seal_open(uint16_t dialect, uint32_t encryption, uint16_t cipher, const uint8_t *key, size_t key_len,
+uint32_t smb3seal_open(uint32_t role, uint16_t dialect, uint32_t encryption, uint16_t cipher, const uint8_t *key, size_t key_len,
                        uint64_t session_id, uint8_t *message, size_t message_len, uint64_t *headers);
 
 /*
@@ -250,10 +253,10 @@ struct smb3seal_connection {
     uint8_t spare;       /* 0; any other number counts as encryption off: 1 */
 };
 
-/* The `encryption` of a call under one key: a stray byte in role or spare turns it off, as it does with a session table. */
+/* The `encryption` of a call under one key: a stray spare byte turns it off, as it does with a session table. */
 static inline uint32_t smb3seal_connection_encryption(struct smb3seal_connection connection)
 {
-    return connection.encryption != 0 && connection.role <= SMB3SEAL_SERVER && connection.spare == 0;
+    return connection.encryption != 0 && connection.spare == 0;
 }
 
 /*
@@ -268,7 +271,7 @@ static inline uint32_t smb3seal_connection_derive(struct smb3seal_connection con
 }
 
 /*
- * smb3seal_seal with the dialect, encryption and cipher of the connection. The key is the caller's choice: on a client the one at
+ * smb3seal_seal with the role, dialect, encryption and cipher of the connection. The key is the caller's choice: on a client the one at
  * SMB3SEAL_CLIENT_TO_SERVER_KEY, on a server the other. Whether the connection is constrained is not looked at.
  *
  * Answers 0, or 40, 1, 2, 3, 11 to 16, 17.
@@ -277,20 +280,20 @@ static inline uint32_t smb3seal_connection_seal(struct smb3seal_connection conne
                                                 uint64_t session_id, uint64_t *counter, uint8_t *message, size_t message_len,
                                                 uint64_t *headers)
 {
-    return smb3seal_seal(connection.dialect, smb3seal_connection_encryption(connection), connection.cipher, key, key_len, session_id,
-                         counter, message, message_len, headers);
+    return smb3seal_seal(connection.role, connection.dialect, smb3seal_connection_encryption(connection), connection.cipher, key,
+                         key_len, session_id, counter, message, message_len, headers);
 }
 
 /*
- * smb3seal_open with the dialect, encryption and cipher of the connection. The key is that of the other direction.
+ * smb3seal_open with the role, dialect, encryption and cipher of the connection. The key is that of the other direction.
  *
  * Answers 0, or 40, 1 to 6, 9 to 16.
  */
 static inline uint32_t smb3seal_connection_open(struct smb3seal_connection connection, const uint8_t *key, size_t key_len,
                                                 uint64_t session_id, uint8_t *message, size_t message_len, uint64_t *headers)
 {
-    return smb3seal_open(connection.dialect, smb3seal_connection_encryption(connection), connection.cipher, key, key_len, session_id,
-                         message, message_len, headers);
+    return smb3seal_open(connection.role, connection.dialect, smb3seal_connection_encryption(connection), connection.cipher, key,
+                         key_len, session_id, message, message_len, headers);
 }
 
 /*
@@ -368,7 +371,8 @@ uint32_t smb3seal_table_remove(struct smb3seal_session *table, size_t table_len,
  *
  * table       reads, and writes one more to the counter of the session's record; every other byte stays as it is
  * connection  what the connection agreed on
- * session_id  the session, written to the transform header; the inner headers must carry it (a related one behind the first need not)
+ * session_id  the session, written to the transform header; the inner headers must carry it (a related one behind the first need not,
+ *             nor a break notice that a server seals)
  * message     reads and writes: SMB3SEAL_HEADER_BYTES of room, of any content, and behind them the inner message: one SMB 2 message
  *             or a compound of them
  * headers     writes: the number of inner headers

@@ -137,7 +137,7 @@ static void sealing(uint16_t cipher, uint8_t role, uint64_t counter)
     expect(c.headers == 1 && c.table[PLACE].counter == counter + 1, "headers sealed, and the counter", c.table[PLACE].counter);
     c.table[PLACE].counter = counter;
     expect_others_kept(&c, RECORDS, "sealing changes one counter alone");
-    uint32_t r = smb3seal_seal(c.connection.dialect, 1, cipher, key, 16, SESSION, &same, message, sizeof message, &headers);
+    uint32_t r = smb3seal_seal(role, c.connection.dialect, 1, cipher, key, 16, SESSION, &same, message, sizeof message, &headers);
     expect(r == 0 && memcmp(message, c.message.at, sizeof message) == 0, "the bytes of sealing under the record's key", role);
 }
 
