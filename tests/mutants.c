@@ -38,6 +38,15 @@ void leave_plaintext(uint16_t dialect, uint16_t cipher, const uint8_t *key, uint
     openssl_open(&how, message + 52, message_len - 52, message + 4);
 }
 
+int sealed_marks(uint16_t dialect, uint16_t cipher, const uint8_t *key, const uint8_t *message, size_t message_len)
+{
+    uint8_t copy[4096];
+    if (message_len > sizeof copy) return 0;
+    memcpy(copy, message, message_len);
+    leave_plaintext(dialect, cipher, key, copy, message_len);
+    return marks_of(copy + 52);
+}
+
 uint32_t __real_smb3seal_derive(uint16_t, const uint8_t *, size_t, const uint8_t *, size_t, uint8_t *, size_t);
 uint32_t __wrap_smb3seal_derive(uint16_t dialect, const uint8_t *material, size_t material_len, const uint8_t *chain,
                                 size_t chain_len, uint8_t *keys, size_t keys_len)
@@ -170,11 +179,10 @@ uint32_t __wrap_smb3seal_open(uint32_t role, uint16_t dialect, uint32_t encrypti
     if (bad_tag || behind_tag) leave_plaintext(dialect, cipher, key, message, message_len);
     if (fault("open: 10 before 9") && r == 9 && message[36] != (uint8_t)(message_len - 52)) return 10;
     if (fault("open: 16 for 15") && r == 15) return 16;
-    if (r == 14 && role == SMB3SEAL_CLIENT && fault("open: notices by two marks")) {
-        leave_plaintext(dialect, cipher, key, message, message_len);
-        int marks = marks_of(message + 52);
-        return marks == (COMMAND | MESSAGE_ID) || marks == (COMMAND | SESSION_ID) || marks == (MESSAGE_ID | SESSION_ID) ? 0 : 14;
-    }
+    int marks = r == 14 && role == SMB3SEAL_CLIENT ? sealed_marks(dialect, cipher, key, message, message_len) : 0;
+    if (fault("open: a notice by Command and MessageId") && marks == (COMMAND | MESSAGE_ID)) return 0;
+    if (fault("open: a notice by Command and SessionId") && marks == (COMMAND | SESSION_ID)) return 0;
+    if (fault("open: a notice by MessageId and SessionId") && marks == (MESSAGE_ID | SESSION_ID)) return 0;
     if (fault("open: a refusal clears the count") && r != 0) *headers = 0;
     if (fault("open: the header is cleared") && r == 0) memset(message, 0, 52);
     return r;
