@@ -30,15 +30,19 @@ static void make(uint8_t *message, int notice)
     memset(message + 76, notice ? 0xFF : 1, 8);
 }
 
-/* Opened at the other end, by the connection and by its numbers: twice the same, and done. */
-static void compare_opened(struct smb3seal_connection c, uint32_t on, const uint8_t *key, uint8_t *one, uint8_t *two)
+/* Opened by the connection and by its numbers, at either end: twice the same. A server does not open a break notice. */
+static void compare_opened(struct smb3seal_connection c, uint32_t on, const uint8_t *key, const uint8_t *message, int notice)
 {
-    uint64_t headers_one = 9, headers_two = 9;
-    c.role ^= 1;
-    uint32_t answer = smb3seal_connection_open(c, key, 16, SESSION, one, SEALED_BYTES, &headers_one);
-    uint32_t plain = smb3seal_open(c.role, c.dialect, on, c.cipher, key, 16, SESSION, two, SEALED_BYTES, &headers_two);
-    expect(answer == SMB3SEAL_DONE && plain == SMB3SEAL_DONE && memcmp(one, two, SEALED_BYTES) == 0, "opening", c);
-    expect(headers_one == 1 && headers_two == 1, "the headers opened", c);
+    for (c.role = SMB3SEAL_CLIENT; c.role <= SMB3SEAL_SERVER; c.role++) {
+        uint8_t one[SEALED_BYTES], two[SEALED_BYTES];
+        uint64_t headers_one = 9, headers_two = 9;
+        memcpy(one, message, sizeof one), memcpy(two, message, sizeof two);
+        uint32_t answer = smb3seal_connection_open(c, key, 16, SESSION, one, sizeof one, &headers_one);
+        uint32_t plain = smb3seal_open(c.role, c.dialect, on, c.cipher, key, 16, SESSION, two, sizeof two, &headers_two);
+        uint32_t right = notice && c.role == SMB3SEAL_SERVER ? SMB3SEAL_INNER_SESSION : SMB3SEAL_DONE;
+        expect(answer == right && plain == right && memcmp(one, two, sizeof one) == 0, "opening", c);
+        expect(headers_one == headers_two, "the headers opened", c);
+    }
 }
 
 /* Sealed by the connection, by its numbers and by the table: three times the same. */
@@ -58,7 +62,7 @@ static void compare_one(struct smb3seal_connection c, uint32_t on, int notice)
     expect(headers_one == headers_two && headers_one == headers_three, "the headers", c);
     if (answer != SMB3SEAL_DONE) return;
     sealed++;
-    compare_opened(c, on, key, one, two);
+    compare_opened(c, on, key, one, notice);
 }
 
 static void compare(struct smb3seal_connection c, uint32_t on)
