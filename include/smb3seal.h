@@ -100,6 +100,19 @@ extern "C" {
 #define SMB3SEAL_SERVER_TO_CLIENT_KEY 48 /* a server seals with it, a client opens with it */
 
 /*
+ * ---- break notices
+ *
+ * A server tells a client unasked that an oplock or a lease is broken (MS-SMB2 2.2.23). The header of such a notice has the Command
+ * 0x0012 (bytes 12..14), a MessageId of all ones (24..32) and the SessionId 0 (40..48). Where a server seals and where a client opens,
+ * a header with all three marks is not tested for 14, at any place in the message; all else is tested as ever. With two of the three,
+ * or from a client, it gets 14.
+ *
+ * A client that opened a message looks for the three marks before it looks for the request (3.2.5.19): a notice belongs to none, and
+ * the 0 in its header is no session. It says by itself which file or lease it is about. It has no MessageId of its own, so one that was
+ * sent again by somebody on the way cannot be told by it: act on it as on one that may come twice.
+ */
+
+/*
  * ---- answers
  *
  * What to do on a number, where its own line does not say more:
@@ -230,8 +243,7 @@ uint32_t smb3seal_seal(uint32_t role, uint16_t dialect, uint32_t encryption, uin
  * message     reads and writes: the whole received message, without the transport's length field
  * headers     writes: the number of inner headers
  *
- * A sealed message that arrives twice opens twice. Whether its MessageId was seen before is for the caller to check, but for a break
- * notice, which has none of its own.
+ * A sealed message that arrives twice opens twice. Whether its MessageId was seen before is for the caller to check.
  *
  * Answers 0, or 40, 1 to 6, 9 to 16.
  */
