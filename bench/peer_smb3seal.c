@@ -25,15 +25,15 @@ static uint64_t number_at(const uint8_t *p)
 static int seal(uint16_t cipher, const uint8_t *key, uint8_t *m, size_t n)
 {
     uint64_t counter = number_at(m + NONCE_AT), headers;
-    return smb3seal_seal(SMB3SEAL_DIALECT_311, 1, cipher, key, KEY_BYTES, number_at(m + SESSION_AT), &counter, m, TEXT_AT + n,
-                         &headers) == SMB3SEAL_DONE;
+    return smb3seal_seal(SMB3SEAL_CLIENT, SMB3SEAL_DIALECT_311, 1, cipher, key, KEY_BYTES, number_at(m + SESSION_AT), &counter, m,
+                         TEXT_AT + n, &headers) == SMB3SEAL_DONE;
 }
 
 static int open(uint16_t cipher, const uint8_t *key, uint8_t *m, size_t n)
 {
     uint64_t headers;
-    return smb3seal_open(SMB3SEAL_DIALECT_311, 1, cipher, key, KEY_BYTES, number_at(m + SESSION_AT), m, TEXT_AT + n, &headers) ==
-           SMB3SEAL_DONE;
+    return smb3seal_open(SMB3SEAL_SERVER, SMB3SEAL_DIALECT_311, 1, cipher, key, KEY_BYTES, number_at(m + SESSION_AT), m, TEXT_AT + n,
+                         &headers) == SMB3SEAL_DONE;
 }
 
 static int ccm_seal(const uint8_t *key, uint8_t *m, size_t n)

@@ -61,13 +61,14 @@ static uint32_t fold_response(void)
 static uint32_t seal(void)
 {
     uint64_t counter = 0, headers;
-    return smb3seal_seal(SMB3SEAL_DIALECT_311, 1, current->cipher, key, 16, SESSION, &counter, message, sizeof message, &headers);
+    return smb3seal_seal(SMB3SEAL_CLIENT, SMB3SEAL_DIALECT_311, 1, current->cipher, key, 16, SESSION, &counter, message, sizeof message,
+                         &headers);
 }
 
 static uint32_t open(void)
 {
     uint64_t headers;
-    return smb3seal_open(SMB3SEAL_DIALECT_311, 1, current->cipher, key, 16, SESSION, message, sizeof message, &headers);
+    return smb3seal_open(SMB3SEAL_SERVER, SMB3SEAL_DIALECT_311, 1, current->cipher, key, 16, SESSION, message, sizeof message, &headers);
 }
 
 /* The end that seals is a client, and the one that opens a server: both with the key of one direction. */

@@ -53,8 +53,10 @@ static int run_under_key(const struct task *t, uint8_t *m)
     uint8_t keys[64];
     size_t n = HEADER + t->n;
     uint16_t dialect = connection.dialect;
-    if (t->work == SEAL) return smb3seal_seal(dialect, 1, t->cipher, key, 16, SESSION, &counter, m, n, &headers) == SMB3SEAL_DONE;
-    if (t->work == OPEN) return smb3seal_open(dialect, 1, t->cipher, key, 16, SESSION, m, n, &headers) == SMB3SEAL_DONE;
+    if (t->work == SEAL)
+        return smb3seal_seal(SMB3SEAL_CLIENT, dialect, 1, t->cipher, key, 16, SESSION, &counter, m, n, &headers) == SMB3SEAL_DONE;
+    if (t->work == OPEN)
+        return smb3seal_open(SMB3SEAL_SERVER, dialect, 1, t->cipher, key, 16, SESSION, m, n, &headers) == SMB3SEAL_DONE;
     return smb3seal_derive(dialect, key, 16, chain, 64, keys, 64) == SMB3SEAL_DONE;
 }
 

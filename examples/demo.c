@@ -97,9 +97,9 @@ static void signature(const struct session *s, const uint8_t *keys)
 
 /* ---- sealed messages */
 
-static uint32_t open_it(const struct session *s, const uint8_t *key, uint8_t *message, size_t n, uint64_t *headers)
+static uint32_t open_it(const struct session *s, uint32_t role, const uint8_t *key, uint8_t *message, size_t n, uint64_t *headers)
 {
-    return smb3seal_open(s->dialect, 1, s->cipher, key, SMB3SEAL_KEY_BYTES, s->id, message, n, headers);
+    return smb3seal_open(role, s->dialect, 1, s->cipher, key, SMB3SEAL_KEY_BYTES, s->id, message, n, headers);
 }
 
 /* The published message made again from its plaintext. */
@@ -109,7 +109,8 @@ static void seal_again(const struct session *s, const uint8_t *key, uint64_t *co
     uint64_t headers = 0, before = *counter;
     size_t n = t->message.len;
     memcpy(message + SMB3SEAL_HEADER_BYTES, t->plaintext.at, t->plaintext.len);
-    uint32_t number = smb3seal_seal(s->dialect, 1, s->cipher, key, SMB3SEAL_KEY_BYTES, s->id, counter, message, n, &headers);
+    uint32_t number =
+        smb3seal_seal(SMB3SEAL_SERVER, s->dialect, 1, s->cipher, key, SMB3SEAL_KEY_BYTES, s->id, counter, message, n, &headers);
     printf("   server seals from counter %016llX: %s, %zu bytes\n     ", (unsigned long long)before, smb3seal_text(number), n);
     hex(message, n);
     printf("%s\n", verdict(number == SMB3SEAL_DONE && memcmp(message, t->message.at, n) == 0));
@@ -130,7 +131,7 @@ static void exchange(const struct session *s, const uint8_t *keys, uint8_t *mess
         if (t->sealed_by_counter && counter == 0) counter = t->counter;
         if (t->sealed_by_counter) seal_again(s, key, &counter, t);
         memcpy(message, t->message.at, t->message.len);
-        uint32_t number = open_it(s, key, message, t->message.len, &headers);
+        uint32_t number = open_it(s, from_server ? SMB3SEAL_CLIENT : SMB3SEAL_SERVER, key, message, t->message.len, &headers);
         int equal = headers == 1 && memcmp(message + SMB3SEAL_HEADER_BYTES, t->plaintext.at, t->plaintext.len) == 0;
         printf("   %s opens: %s, headers: %llu, plaintext: %zu bytes%s\n", from_server ? "client" : "server", smb3seal_text(number),
                (unsigned long long)headers, t->plaintext.len, verdict(number == SMB3SEAL_DONE && equal));
@@ -177,7 +178,7 @@ static void damage(const struct session *s, const uint8_t *keys)
     message[140] ^= 0x01;
     memcpy(lent, message, t->message.len);
     chapter("6. The same response with one bit of byte 140 changed on the way");
-    uint32_t number = open_it(s, keys + SMB3SEAL_SERVER_TO_CLIENT_KEY, message, t->message.len, &headers);
+    uint32_t number = open_it(s, SMB3SEAL_CLIENT, keys + SMB3SEAL_SERVER_TO_CLIENT_KEY, message, t->message.len, &headers);
     int unchanged = memcmp(message, lent, t->message.len) == 0 && headers == 77;
     printf("   client opens: %u, %s\n", (unsigned)number, smb3seal_text(number));
     printf("   the message is %s\n", unchanged ? "as it arrived, byte for byte: no plaintext is left behind" : "CHANGED");

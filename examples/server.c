@@ -2,8 +2,8 @@
  * A server and its clients on socket pairs, framed as on TCP: a zero byte, three bytes of length, the message. Keys, counters and the
  * choice of a key are left to the session table: of the library, nothing is called but the calls with a table.
  *
- * The server has room for three sessions. A fourth client has to wait for a logoff; one client is a guest, one sends a message twice, one
- * message is damaged on the way, one comes by another's connection, and one comes after its session was removed.
+ * The server has room for three sessions. A fourth client has to wait for a logoff; one client is a guest, one gets a break notice, one
+ * sends a message twice, one message is damaged on the way, one comes by another's connection, and one after its session was removed.
  */
 #include <smb3seal.h>
 #include <smb3seal_text.h>
@@ -13,7 +13,8 @@
 #include <sys/socket.h>
 #include <unistd.h>
 
-enum { LOGOFF = 2, ECHO = 13, INNER_BYTES = 68, SEALED_BYTES = SMB3SEAL_HEADER_BYTES + INNER_BYTES, RECORDS = 3 };
+enum { LOGOFF = 2, ECHO = 13, OPLOCK_BREAK = 18, INNER_BYTES = 68, NOTICE_BYTES = 88, RECORDS = 3 };
+enum { SEALED_BYTES = SMB3SEAL_HEADER_BYTES + INNER_BYTES, SEALED_NOTICE_BYTES = SMB3SEAL_HEADER_BYTES + NOTICE_BYTES };
 
 static const struct smb3seal_connection client_end = {
     .dialect = SMB3SEAL_DIALECT_311, .cipher = SMB3SEAL_CIPHER_AES_128_GCM, .role = SMB3SEAL_CLIENT, .encryption = 1};
@@ -58,6 +59,14 @@ static void make(uint8_t message[SEALED_BYTES], uint64_t id, uint8_t command, ui
     inner[24] = message_id;
     for (int i = 0; i < 8; i++) inner[40 + i] = (uint8_t)(id >> 8 * i);
     inner[64] = 4;
+}
+
+/* The three marks of a header that comes unasked and names no session. */
+static int is_break_notice(const uint8_t *header)
+{
+    static const uint8_t ones[8] = {0xFF, 0xFF, 0xFF, 0xFF, 0xFF, 0xFF, 0xFF, 0xFF}, zeros[8];
+    int command = header[12] == OPLOCK_BREAK && header[13] == 0;
+    return command && memcmp(header + 24, ones, 8) == 0 && memcmp(header + 40, zeros, 8) == 0;
 }
 
 /* The session that the transform header names: after an answer of 0, the one that opened the message. */
@@ -132,6 +141,18 @@ static void serve(int socket)
     if (command == LOGOFF) say("server", "removes the session", smb3seal_table_remove(table, RECORDS, id));
 }
 
+/* Of the notice itself, which says what is broken, there is but its size. */
+static void notify(const struct client *c)
+{
+    uint8_t message[SEALED_NOTICE_BYTES] = {0};
+    uint64_t headers;
+    make(message, 0, OPLOCK_BREAK, 0xFF, 1);
+    memset(message + SMB3SEAL_HEADER_BYTES + 24, 0xFF, 8);
+    message[SMB3SEAL_HEADER_BYTES + 64] = NOTICE_BYTES - 64;
+    say("server", "seals a break notice", smb3seal_table_seal(table, RECORDS, server_end, c->id, message, sizeof message, &headers));
+    send_frame(c->at_server, message, sizeof message);
+}
+
 /* ---- the clients */
 
 static struct client connected(const char *name, uint8_t id, uint8_t guest)
@@ -148,12 +169,15 @@ static void sealed(struct client *c, uint8_t command, uint8_t message_id, uint8_
     must(smb3seal_table_seal(c->table, 1, client_end, c->id, message, SEALED_BYTES, &headers) == SMB3SEAL_DONE, "sealing");
 }
 
+/* A client looks for the marks of a break notice before it looks for the request. */
 static void response(struct client *c)
 {
-    uint8_t message[SEALED_BYTES];
+    uint8_t message[SEALED_NOTICE_BYTES];
     uint64_t headers;
     size_t n = receive_frame(c->socket, message, sizeof message);
-    say(c->name, "opens its response", smb3seal_table_open(c->table, 1, client_end, message, n, &headers));
+    uint32_t answer = smb3seal_table_open(c->table, 1, client_end, message, n, &headers);
+    int notice = answer == SMB3SEAL_DONE && is_break_notice(message + SMB3SEAL_HEADER_BYTES);
+    say(c->name, notice ? "opens a break notice, which answers no request" : "opens its response", answer);
 }
 
 static void exchange(struct client *c, uint8_t command, uint8_t message_id)
@@ -205,6 +229,8 @@ int main(void)
     login(&cid);
     exchange(&ann, ECHO, 1);
     exchange(&bob, ECHO, 1);
+    notify(&bob);
+    response(&bob);
     seal_for_guest(&guest);
     replayed_damaged_and_misled(&bob, &ann);
 

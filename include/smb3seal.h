@@ -71,9 +71,9 @@ extern "C" {
  */
 
 #define SMB3SEAL_VERSION_MAJOR 0
-#define SMB3SEAL_VERSION_MINOR 3
+#define SMB3SEAL_VERSION_MINOR 4
 #define SMB3SEAL_VERSION_PATCH 0
-#define SMB3SEAL_VERSION "0.3.0"
+#define SMB3SEAL_VERSION "0.4.0"
 
 /* ---- dialects and ciphers, as MS-SMB2 numbers them */
 
@@ -105,6 +105,19 @@ extern "C" {
 #define SMB3SEAL_SERVER_TO_CLIENT_KEY 48 /* a server seals with it, a client opens with it */
 
 /*
+ * ---- break notices
+ *
+ * A server tells a client unasked that an oplock or a lease is broken (MS-SMB2 2.2.23). The header of such a notice has the Command
+ * 0x0012 (bytes 12..14), a MessageId of all ones (24..32) and the SessionId 0 (40..48). Where a server seals and where a client opens,
+ * a header with all three marks is not tested for 14, at any place in the message; all else is tested as ever. With two of the three,
+ * or from a client, it gets 14.
+ *
+ * A client that opened a message looks for the three marks before it looks for the request (3.2.5.19): a notice belongs to none, and
+ * the 0 in its header is no session. It says by itself which file or lease it is about. It has no MessageId of its own, so one that was
+ * sent again by somebody on the way cannot be told by it: act on it as on one that may come twice.
+ */
+
+/*
  * ---- answers
  *
  * What to do on a number, where its own line does not say more:
@@ -124,7 +137,7 @@ extern "C" {
 #define SMB3SEAL_DONE 0
 
 /* The connection. Opening: the peer sealed where nothing was agreed, or the program lends the wrong dialect or cipher. */
-#define SMB3SEAL_NOT_ENCRYPTING 1 /* unknown dialect, encryption off, cipher 0, or on 3.1.1 a cipher other than 1 or 2 */
+#define SMB3SEAL_NOT_ENCRYPTING 1 /* unknown dialect or role, encryption off, cipher 0, or on 3.1.1 a cipher other than 1 or 2 */
 
 /* The message as it arrived, before any decryption. */
 #define SMB3SEAL_TOO_SHORT 2     /* the whole message has at most 52 bytes */
@@ -145,7 +158,7 @@ extern "C" {
 #define SMB3SEAL_INNER_TOO_SHORT 11 /* the inner message, or the one to sign or verify, has less than 64 bytes */
 #define SMB3SEAL_NOT_HEADER 12      /* an inner header, or the message to sign or verify, does not begin FE 53 4D 42 */
 #define SMB3SEAL_FIRST_RELATED 13   /* the first inner header has the related flag */
-#define SMB3SEAL_INNER_SESSION 14   /* an inner SessionId differs from the session's, and its header is the first or not related */
+#define SMB3SEAL_INNER_SESSION 14   /* an inner SessionId differs from the session's; that of a related later header or a server's break notice may */
 #define SMB3SEAL_NEXT_OUTSIDE 15    /* NextCommand is under 64, or the next header is not wholly inside */
 #define SMB3SEAL_NEXT_UNALIGNED 16  /* NextCommand is not a multiple of 8 */
 
@@ -213,11 +226,13 @@ uint32_t smb3seal_derive(uint16_t dialect, const uint8_t *material, size_t mater
 /*
  * Seals in place. Afterwards the message, of the same length, is ready to send.
  *
+ * role        this end's: SMB3SEAL_CLIENT or SMB3SEAL_SERVER; any other number counts as encryption off: 1. It does not choose the key
  * dialect     SMB3SEAL_DIALECT_..
  * encryption  0 for off, anything else for on
  * cipher      SMB3SEAL_CIPHER_..; below 3.1.1 any number but 0 means AES-128-CCM
  * key         reads: SMB3SEAL_KEY_BYTES, the key of this direction
- * session_id  written to the transform header; the inner headers must carry it (a related one behind the first need not)
+ * session_id  written to the transform header; the inner headers must carry it (a related one behind the first need not, nor a break
+ *             notice that a server seals)
  * counter     reads, and writes one more: the send counter of this key, which becomes the nonce. Start it at 0 for a new key, keep
  *             what is handed back, and never seal twice under one key with one value: it loses secrecy, and under GCM the tag's worth
  * message     reads and writes: SMB3SEAL_HEADER_BYTES of room, of any content, and behind them the inner message: one SMB 2 message
@@ -226,14 +241,14 @@ uint32_t smb3seal_derive(uint16_t dialect, const uint8_t *material, size_t mater
  *
  * Answers 0, or 40, 1, 2, 3, 11 to 16, 17.
  */
-uint32_t smb3seal_seal(uint16_t dialect, uint32_t encryption, uint16_t cipher, const uint8_t *key, size_t key_len,
+uint32_t smb3seal_seal(uint32_t role, uint16_t dialect, uint32_t encryption, uint16_t cipher, const uint8_t *key, size_t key_len,
                        uint64_t session_id, uint64_t *counter, uint8_t *message, size_t message_len, uint64_t *headers);
 
 /*
  * Opens in place. Afterwards the first 52 bytes are the transform header as received, and the rest is the plaintext. After a refusal
  * the message is as received: no byte of plaintext is left in it.
  *
- * dialect, encryption, cipher   as for smb3seal_seal
+ * role, dialect, encryption, cipher   as for smb3seal_seal; the role is that of the end that opens
  * key         reads: SMB3SEAL_KEY_BYTES, the key of the other direction
  * session_id  the session that the caller looked up by the header's SessionId (bytes 44..52, little-endian)
  * message     reads and writes: the whole received message, without the transport's length field
@@ -243,7 +258,7 @@ uint32_t smb3seal_seal(uint16_t dialect, uint32_t encryption, uint16_t cipher, c
  *
  * Answers 0, or 40, 1 to 6, 9 to 16.
  */
-uint32_t smb3seal_open(uint16_t dialect, uint32_t encryption, uint16_t cipher, const uint8_t *key, size_t key_len,
+uint32_t smb3seal_open(uint32_t role, uint16_t dialect, uint32_t encryption, uint16_t cipher, const uint8_t *key, size_t key_len,
                        uint64_t session_id, uint8_t *message, size_t message_len, uint64_t *headers);
 
 /*
@@ -292,10 +307,10 @@ struct smb3seal_connection {
     uint8_t spare;       /* 0; any other number counts as encryption off: 1 */
 };
 
-/* The `encryption` of a call under one key: a stray byte in role or spare turns it off, as it does with a session table. */
+/* The `encryption` of a call under one key: a stray spare byte turns it off, as it does with a session table. */
 static inline uint32_t smb3seal_connection_encryption(struct smb3seal_connection connection)
 {
-    return connection.encryption != 0 && connection.role <= SMB3SEAL_SERVER && connection.spare == 0;
+    return connection.encryption != 0 && connection.spare == 0;
 }
 
 /*
@@ -310,7 +325,7 @@ static inline uint32_t smb3seal_connection_derive(struct smb3seal_connection con
 }
 
 /*
- * smb3seal_seal with the dialect, encryption and cipher of the connection. The key is the caller's choice: on a client the one at
+ * smb3seal_seal with the role, dialect, encryption and cipher of the connection. The key is the caller's choice: on a client the one at
  * SMB3SEAL_CLIENT_TO_SERVER_KEY, on a server the other. Whether the connection is constrained is not looked at.
  *
  * Answers 0, or 40, 1, 2, 3, 11 to 16, 17.
@@ -319,20 +334,20 @@ static inline uint32_t smb3seal_connection_seal(struct smb3seal_connection conne
                                                 uint64_t session_id, uint64_t *counter, uint8_t *message, size_t message_len,
                                                 uint64_t *headers)
 {
-    return smb3seal_seal(connection.dialect, smb3seal_connection_encryption(connection), connection.cipher, key, key_len, session_id,
-                         counter, message, message_len, headers);
+    return smb3seal_seal(connection.role, connection.dialect, smb3seal_connection_encryption(connection), connection.cipher, key,
+                         key_len, session_id, counter, message, message_len, headers);
 }
 
 /*
- * smb3seal_open with the dialect, encryption and cipher of the connection. The key is that of the other direction.
+ * smb3seal_open with the role, dialect, encryption and cipher of the connection. The key is that of the other direction.
  *
  * Answers 0, or 40, 1 to 6, 9 to 16.
  */
 static inline uint32_t smb3seal_connection_open(struct smb3seal_connection connection, const uint8_t *key, size_t key_len,
                                                 uint64_t session_id, uint8_t *message, size_t message_len, uint64_t *headers)
 {
-    return smb3seal_open(connection.dialect, smb3seal_connection_encryption(connection), connection.cipher, key, key_len, session_id,
-                         message, message_len, headers);
+    return smb3seal_open(connection.role, connection.dialect, smb3seal_connection_encryption(connection), connection.cipher, key,
+                         key_len, session_id, message, message_len, headers);
 }
 
 /*
@@ -410,7 +425,8 @@ uint32_t smb3seal_table_remove(struct smb3seal_session *table, size_t table_len,
  *
  * table       reads, and writes one more to the counter of the session's record; every other byte stays as it is
  * connection  what the connection agreed on
- * session_id  the session, written to the transform header; the inner headers must carry it (a related one behind the first need not)
+ * session_id  the session, written to the transform header; the inner headers must carry it (a related one behind the first need not,
+ *             nor a break notice that a server seals)
  * message     reads and writes: SMB3SEAL_HEADER_BYTES of room, of any content, and behind them the inner message: one SMB 2 message
  *             or a compound of them
  * headers     writes: the number of inner headers

@@ -11,7 +11,7 @@ static inline const char *smb3seal_text(uint32_t number)
 {
     switch (number) {
     case SMB3SEAL_DONE: return "done";
-    case SMB3SEAL_NOT_ENCRYPTING: return "this connection does not encrypt: dialect, setting or cipher";
+    case SMB3SEAL_NOT_ENCRYPTING: return "this connection does not encrypt: dialect, role, setting or cipher";
     case SMB3SEAL_TOO_SHORT: return "the message is not longer than a transform header";
     case SMB3SEAL_TOO_LONG: return "the message is longer than 1,048,576 bytes, those behind its transform header if it has one";
     case SMB3SEAL_NOT_TRANSFORM: return "the message does not begin with a transform header";

@@ -1,6 +1,6 @@
 /*
  * The functions of smb3seal.h that take a connection, compiled as C and as C++: each does what the call under one key does with the
- * connection's numbers, and a stray byte in role or spare turns encryption off there as it does with a session table.
+ * connection's numbers, and a stray byte in role or spare gets 1 there as it does with a session table.
  */
 #include <smb3seal.h>
 #include <stdio.h>
@@ -20,23 +20,41 @@ static void expect(int holds, const char *what, struct smb3seal_connection c)
            (unsigned)c.role, (unsigned)c.encryption, (unsigned)c.spare);
 }
 
-static void make(uint8_t *message)
+/* A plain message of the session, or a break notice: 14 to a client that seals it and to a server that opens it. */
+static void make(uint8_t *message, int notice)
 {
     memset(message, 0, SEALED_BYTES);
     memcpy(message + 52, "\xFESMB", 4);
-    message[92] = SESSION;
+    message[92] = notice ? 0 : SESSION;
+    message[64] = notice ? 0x12 : 13;
+    memset(message + 76, notice ? 0xFF : 1, 8);
 }
 
-/* Sealed and opened by the connection, by its numbers and by the table: three times the same. */
-static void compare(struct smb3seal_connection c, uint32_t on)
+/* Opened by the connection and by its numbers, at either end: twice the same. A server does not open a break notice. */
+static void compare_opened(struct smb3seal_connection c, uint32_t on, const uint8_t *key, const uint8_t *message, int notice)
+{
+    for (c.role = SMB3SEAL_CLIENT; c.role <= SMB3SEAL_SERVER; c.role++) {
+        uint8_t one[SEALED_BYTES], two[SEALED_BYTES];
+        uint64_t headers_one = 9, headers_two = 9;
+        memcpy(one, message, sizeof one), memcpy(two, message, sizeof two);
+        uint32_t answer = smb3seal_connection_open(c, key, 16, SESSION, one, sizeof one, &headers_one);
+        uint32_t plain = smb3seal_open(c.role, c.dialect, on, c.cipher, key, 16, SESSION, two, sizeof two, &headers_two);
+        uint32_t right = notice && c.role == SMB3SEAL_SERVER ? SMB3SEAL_INNER_SESSION : SMB3SEAL_DONE;
+        expect(answer == right && plain == right && memcmp(one, two, sizeof one) == 0, "opening", c);
+        expect(headers_one == headers_two, "the headers opened", c);
+    }
+}
+
+/* Sealed by the connection, by its numbers and by the table: three times the same. */
+static void compare_one(struct smb3seal_connection c, uint32_t on, int notice)
 {
     const uint8_t *key = keys + (c.role == SMB3SEAL_SERVER ? SMB3SEAL_SERVER_TO_CLIENT_KEY : SMB3SEAL_CLIENT_TO_SERVER_KEY);
     uint8_t one[SEALED_BYTES], two[SEALED_BYTES], three[SEALED_BYTES];
     uint64_t counter_one = 5, counter_two = 5, headers_one = 9, headers_two = 9, headers_three = 9;
-    make(one), make(two), make(three);
+    make(one, notice), make(two, notice), make(three, notice);
     table[0].counter = 5;
     uint32_t answer = smb3seal_connection_seal(c, key, 16, SESSION, &counter_one, one, sizeof one, &headers_one);
-    uint32_t plain = smb3seal_seal(c.dialect, on, c.cipher, key, 16, SESSION, &counter_two, two, sizeof two, &headers_two);
+    uint32_t plain = smb3seal_seal(c.role, c.dialect, on, c.cipher, key, 16, SESSION, &counter_two, two, sizeof two, &headers_two);
     uint32_t by_table = smb3seal_table_seal(table, 1, c, SESSION, three, sizeof three, &headers_three);
     expect(answer == plain && answer == by_table, "sealing answers", c);
     expect(memcmp(one, two, sizeof one) == 0 && memcmp(one, three, sizeof one) == 0, "sealing writes", c);
@@ -44,9 +62,13 @@ static void compare(struct smb3seal_connection c, uint32_t on)
     expect(headers_one == headers_two && headers_one == headers_three, "the headers", c);
     if (answer != SMB3SEAL_DONE) return;
     sealed++;
-    answer = smb3seal_connection_open(c, key, 16, SESSION, one, sizeof one, &headers_one);
-    plain = smb3seal_open(c.dialect, on, c.cipher, key, 16, SESSION, two, sizeof two, &headers_two);
-    expect(answer == SMB3SEAL_DONE && plain == SMB3SEAL_DONE && memcmp(one, two, sizeof one) == 0, "opening", c);
+    compare_opened(c, on, key, one, notice);
+}
+
+static void compare(struct smb3seal_connection c, uint32_t on)
+{
+    compare_one(c, on, 0);
+    compare_one(c, on, 1);
 }
 
 static void derive(struct smb3seal_connection c)
@@ -67,7 +89,7 @@ int main(void)
         struct smb3seal_connection c = {dialects[i / 4], (uint16_t)(i % 4), SMB3SEAL_CLIENT, 1, 0, 0};
         derive(c);
         for (unsigned byte = 0; byte < 256; byte++) {
-            c.role = (uint8_t)byte, compare(c, byte <= SMB3SEAL_SERVER), c.role = SMB3SEAL_CLIENT;
+            c.role = (uint8_t)byte, compare(c, 1), c.role = SMB3SEAL_CLIENT;
             c.encryption = (uint8_t)byte, compare(c, byte), c.encryption = 1;
             c.spare = (uint8_t)byte, compare(c, byte == 0), c.spare = 0;
         }

@@ -63,8 +63,9 @@ struct functions {
     uint32_t (*derive)(uint16_t, const uint8_t *, size_t, const uint8_t *, size_t, uint8_t *, size_t);
     uint32_t (*fold)(uint8_t *, size_t, const uint8_t *, size_t);
     uint32_t (*fold_response)(uint8_t *, size_t, const uint8_t *, size_t, uint32_t *);
-    uint32_t (*seal)(uint16_t, uint32_t, uint16_t, const uint8_t *, size_t, uint64_t, uint64_t *, uint8_t *, size_t, uint64_t *);
-    uint32_t (*open)(uint16_t, uint32_t, uint16_t, const uint8_t *, size_t, uint64_t, uint8_t *, size_t, uint64_t *);
+    uint32_t (*seal)(uint32_t, uint16_t, uint32_t, uint16_t, const uint8_t *, size_t, uint64_t, uint64_t *, uint8_t *, size_t,
+                     uint64_t *);
+    uint32_t (*open)(uint32_t, uint16_t, uint32_t, uint16_t, const uint8_t *, size_t, uint64_t, uint8_t *, size_t, uint64_t *);
     uint32_t (*sign)(const uint8_t *, size_t, uint8_t *, size_t);
     uint32_t (*verify)(const uint8_t *, size_t, const uint8_t *, size_t);
 };
@@ -80,17 +81,17 @@ static uint32_t perform(const struct functions *by, const struct call *c, struct
     case DERIVE: return by->derive(c->dialect, o->key, key, o->chain, chain, o->message, n);
     case FOLD: return by->fold(o->chain, chain, o->message, n);
     case FOLD_RESPONSE: return by->fold_response(o->chain, chain, o->message, n, o->folded);
-    case SEAL: return by->seal(c->dialect, c->encryption, c->cipher, o->key, key, c->id, o->counter, o->message, n, o->headers);
+    case SEAL: return by->seal(c->role, c->dialect, c->encryption, c->cipher, o->key, key, c->id, o->counter, o->message, n, o->headers);
     case SIGN: return by->sign(o->key, key, o->message, n);
     case VERIFY: return by->verify(o->key, key, o->message, n);
-    default: return by->open(c->dialect, c->encryption, c->cipher, o->key, key, c->id, o->message, n, o->headers);
+    default: return by->open(c->role, c->dialect, c->encryption, c->cipher, o->key, key, c->id, o->message, n, o->headers);
     }
 }
 
 static _Noreturn void wrong(const struct call *c, uint32_t answer, const char *what, unsigned long long detail)
 {
     static const char *const names[] = {"derive", "fold", "fold_response", "seal", "open", "sign", "verify"};
-    fprintf(stderr, "smb3seal_%s, lent %zu bytes, answers %u\n", names[c->function], c->message.len, answer);
+    fprintf(stderr, "smb3seal_%s, role %u, lent %zu bytes, answers %u\n", names[c->function], c->role, c->message.len, answer);
     fail(what, detail);
 }
 

@@ -16,6 +16,7 @@ struct lent {
 
 struct call {
     enum function function;
+    uint32_t role;
     uint16_t dialect, cipher;
     uint32_t encryption;
     uint64_t id;

@@ -131,9 +131,10 @@ static void seal_and_send(struct conversation *s, enum direction d, const uint8_
     static uint8_t message[LONGEST];
     uint64_t headers;
     size_t key = d == REQUEST ? SMB3SEAL_CLIENT_TO_SERVER_KEY : SMB3SEAL_SERVER_TO_CLIENT_KEY;
+    uint32_t role = d == REQUEST ? SMB3SEAL_CLIENT : SMB3SEAL_SERVER;
     memcpy(message + TRANSFORM, inner, n);
-    expect(smb3seal_seal(s->dialect, 1, s->cipher, s->keys + key, 16, s->id, &s->counters[d], message, TRANSFORM + n, &headers) == 0,
-           "sealing", n);
+    uint32_t r = smb3seal_seal(role, s->dialect, 1, s->cipher, s->keys + key, 16, s->id, &s->counters[d], message, TRANSFORM + n, &headers);
+    expect(r == 0, "sealing", n);
     list_inner(inner, n);
     send(s, d, message, TRANSFORM + n);
 }

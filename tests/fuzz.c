@@ -73,6 +73,7 @@ int LLVMFuzzerTestOneInput(const uint8_t *data, size_t size)
     struct call c = plain_call((kind & 0x7F) % FUNCTIONS, 0, MOST);
     uint64_t dialect = take(2), cipher = take(2);
     c.dialect = dialect & 0x8000 ? (uint16_t)dialect : dialects[dialect % 4];
+    c.role = (dialect >> 8 & 15) == 15 ? (uint32_t)cipher : dialect >> 8 & 1;
     c.cipher = cipher & 0x8000 ? (uint16_t)cipher : (uint16_t)(cipher % 4);
     uint64_t lengths = take(1);
     c.id = take(8);

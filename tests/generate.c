@@ -22,6 +22,12 @@ uint16_t any_cipher(void)
     return chance(70) ? near[below(COUNT(near))] : (uint16_t)number();
 }
 
+static uint32_t any_role(void)
+{
+    if (chance(96)) return (uint32_t)below(2);
+    return chance(50) ? 2 : (uint32_t)number();
+}
+
 static uint32_t any_switch(void)
 {
     if (chance(90)) return 1;
@@ -63,6 +69,15 @@ struct compound {
     size_t n, count, places[MOST_HEADERS];
 };
 
+/* A break notice, now and then with a bit of a mark changed. */
+static void generate_notice(uint8_t *header)
+{
+    static const struct { size_t at, n; } marks[] = {{12, 2}, {24, 8}, {40, 8}};
+    size_t other = below(COUNT(marks));
+    mark_as_notice(header);
+    if (chance(30)) flip(header + marks[other].at, marks[other].n);
+}
+
 static struct compound any_compound(uint8_t *inner, uint64_t id)
 {
     struct compound c = {inner, 0, 1, {0}};
@@ -77,6 +92,7 @@ static struct compound any_compound(uint8_t *inner, uint64_t id)
         at[16] = (uint8_t)((at[16] & ~4) | (related ? 4 : 0));
         put(at + 20, last ? 0 : length, 4);
         if (!related || chance(30)) put(at + 40, id, 8);
+        if (chance(12)) generate_notice(at);
         c.places[i] = c.n;
         c.n += length;
     }
@@ -206,6 +222,7 @@ struct call generate(void)
                                               OPEN,   OPEN, OPEN,          OPEN, SIGN, VERIFY, VERIFY, VERIFY};
     struct call c = plain_call(functions[below(COUNT(functions))], any_cipher(), HEADER);
     c.dialect = any_dialect();
+    c.role = any_role();
     c.encryption = any_switch();
     c.id = chance(80) ? number() : below(3);
     c.counter = any_counter();

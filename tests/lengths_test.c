@@ -88,11 +88,11 @@ static void wide(void)
     struct call c = plain_call(SEAL, 2, HEADER);
     memcpy(at, c.message.at, c.message.len);
     size_t n = four_gigabytes + c.message.len, key = four_gigabytes + 16, sixty_four = four_gigabytes + 64;
-    expect(smb3seal_seal(0x0311, 1, 2, c.key.at, 16, SESSION, &counter, at, n, &headers) == 3, "sealing over 4 GiB", n);
-    expect(smb3seal_open(0x0311, 1, 2, c.key.at, 16, SESSION, at, n, &headers) == 3, "opening over 4 GiB", n);
+    expect(smb3seal_seal(0, 0x0311, 1, 2, c.key.at, 16, SESSION, &counter, at, n, &headers) == 3, "sealing over 4 GiB", n);
+    expect(smb3seal_open(0, 0x0311, 1, 2, c.key.at, 16, SESSION, at, n, &headers) == 3, "opening over 4 GiB", n);
     expect(memcmp(at, c.message.at, c.message.len) == 0 && counter == 0 && headers == 7, "nothing changed", n);
-    expect(smb3seal_seal(0x0311, 1, 2, at, key, SESSION, &counter, c.message.at, 116, &headers) == 40, "a key over 4 GiB", key);
-    expect(smb3seal_open(0x0311, 1, 2, at, key, SESSION, c.message.at, 116, &headers) == 40, "a key over 4 GiB", key);
+    expect(smb3seal_seal(0, 0x0311, 1, 2, at, key, SESSION, &counter, c.message.at, 116, &headers) == 40, "a key over 4 GiB", key);
+    expect(smb3seal_open(0, 0x0311, 1, 2, at, key, SESSION, c.message.at, 116, &headers) == 40, "a key over 4 GiB", key);
     expect(smb3seal_fold(chain, 64, at, sixty_four) == 23, "folding over 4 GiB", sixty_four);
     expect(smb3seal_fold_response(chain, 64, at, sixty_four, &folded) == 23 && folded == 7, "folding over 4 GiB", sixty_four);
     expect(smb3seal_fold(at, sixty_four, c.message.at, 64) == 40, "a chain over 4 GiB", sixty_four);

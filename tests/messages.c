@@ -18,6 +18,13 @@ void put_header(uint8_t *at, uint32_t flags, uint32_t next, uint64_t id)
     put(at + 40, id, 8);
 }
 
+void mark_as_notice(uint8_t *header)
+{
+    put(header + 12, OPLOCK_BREAK, 2);
+    put(header + 24, UINT64_MAX, 8);
+    put(header + 40, 0, 8);
+}
+
 struct call plain_call(enum function function, uint16_t cipher, size_t n)
 {
     static uint8_t key[32], chain[128], message[ROOM + HEADER];
@@ -27,6 +34,7 @@ struct call plain_call(enum function function, uint16_t cipher, size_t n)
     put_header(message + TRANSFORM, 0, 0, SESSION);
     return (struct call){
         .function = function,
+        .role = 0,
         .dialect = 0x0311,
         .cipher = cipher,
         .encryption = 1,

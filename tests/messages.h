@@ -6,7 +6,7 @@
 
 #include "call.h"
 
-enum { TRANSFORM = 52, HEADER = 64, LIMIT = 1048576, ROOM = TRANSFORM + LIMIT + 1, SESSION = 5 };
+enum { TRANSFORM = 52, HEADER = 64, LIMIT = 1048576, ROOM = TRANSFORM + LIMIT + 1, SESSION = 5, OPLOCK_BREAK = 0x12 };
 
 /* A number in n little-endian bytes. */
 void put(uint8_t *at, uint64_t value, size_t n);
@@ -14,8 +14,11 @@ void put(uint8_t *at, uint64_t value, size_t n);
 /* The 64 bytes of an inner header, zero but for what is given. */
 void put_header(uint8_t *at, uint32_t flags, uint32_t next, uint64_t id);
 
+/* Puts the three marks of a break notice over a header: Command, MessageId, SessionId. */
+void mark_as_notice(uint8_t *header);
+
 /*
- * A call with nothing wrong: 3.1.1, a key, session 5, a counter, and a message of this cipher with room for the transform header and
+ * A call with nothing wrong: a client's, 3.1.1, a key, session 5, a counter, and a message of this cipher with room for the transform header and
  * n inner bytes, which begin with one header (as far as they reach). Its buffers have room for ROOM message bytes, and for twice the
  * right length of key and chain.
  */

@@ -7,7 +7,7 @@
 
 #include "openssl_aead.h"
 
-enum { TRANSFORM = 52, HEADER = 64, LIMIT = 1048576, RELATED = 4, SIGNED = 8 };
+enum { TRANSFORM = 52, HEADER = 64, LIMIT = 1048576, RELATED = 4, SIGNED = 8, CLIENT = 0, SERVER = 1 };
 
 static uint64_t little_endian(const uint8_t *at, size_t n)
 {
@@ -109,7 +109,13 @@ static int begins_header(const uint8_t *at)
     return at[0] == 0xFE && at[1] == 'S' && at[2] == 'M' && at[3] == 'B';
 }
 
-static uint32_t walk(const uint8_t *inner, size_t n, uint64_t id, uint64_t *visited)
+/* Command, MessageId and SessionId. */
+static int is_break_notice(const uint8_t *header)
+{
+    return little_endian(header + 12, 2) == 0x12 && little_endian(header + 24, 8) == UINT64_MAX && little_endian(header + 40, 8) == 0;
+}
+
+static uint32_t walk(const uint8_t *inner, size_t n, uint64_t id, int from_server, uint64_t *visited)
 {
     if (n < HEADER) return 11;
     for (uint64_t place = 0, count = 1;; count++) {
@@ -118,7 +124,8 @@ static uint32_t walk(const uint8_t *inner, size_t n, uint64_t id, uint64_t *visi
         uint64_t distance = little_endian(header + 20, 4);
         if (!begins_header(header)) return 12;
         if (place == 0 && related) return 13;
-        if (!related && little_endian(header + 40, 8) != id) return 14;
+        int excused = related || (from_server && is_break_notice(header));
+        if (!excused && little_endian(header + 40, 8) != id) return 14;
         if (distance == 0) {
             *visited = count;
             return 0;
@@ -131,10 +138,10 @@ static uint32_t walk(const uint8_t *inner, size_t n, uint64_t id, uint64_t *visi
 
 /* ---- sealing and opening */
 
-uint32_t model_first_tests(uint16_t dialect, uint32_t encryption, uint16_t cipher, size_t key_len, size_t message_len)
+uint32_t model_first_tests(uint32_t role, uint16_t dialect, uint32_t encryption, uint16_t cipher, size_t key_len, size_t message_len)
 {
     if (key_len != 16) return 40;
-    if (!known(dialect) || encryption == 0 || cipher == 0) return 1;
+    if (role > SERVER || !known(dialect) || encryption == 0 || cipher == 0) return 1;
     if (dialect == 0x0311 && cipher != 1 && cipher != 2) return 1;
     if (message_len <= TRANSFORM) return 2;
     if (message_len - TRANSFORM > LIMIT) return 3;
@@ -148,12 +155,12 @@ static struct aead protection(uint16_t dialect, uint16_t cipher, const uint8_t *
     return (struct aead){key, message + 20, gcm ? 12 : 11, message + 20, 32};
 }
 
-uint32_t model_seal(uint16_t dialect, uint32_t encryption, uint16_t cipher, const uint8_t *key, size_t key_len, uint64_t session_id,
-                    uint64_t *counter, uint8_t *message, size_t message_len, uint64_t *headers)
+uint32_t model_seal(uint32_t role, uint16_t dialect, uint32_t encryption, uint16_t cipher, const uint8_t *key, size_t key_len,
+                    uint64_t session_id, uint64_t *counter, uint8_t *message, size_t message_len, uint64_t *headers)
 {
     uint64_t visited = 0;
-    uint32_t r = model_first_tests(dialect, encryption, cipher, key_len, message_len);
-    if (r == 0) r = walk(message + TRANSFORM, message_len - TRANSFORM, session_id, &visited);
+    uint32_t r = model_first_tests(role, dialect, encryption, cipher, key_len, message_len);
+    if (r == 0) r = walk(message + TRANSFORM, message_len - TRANSFORM, session_id, role == SERVER, &visited);
     if (r == 0 && *counter == UINT64_MAX) r = 17;
     if (r != 0) return r;
     memset(message, 0, TRANSFORM);
@@ -181,11 +188,11 @@ uint64_t model_session_id(const uint8_t *message)
     return little_endian(message + 44, 8);
 }
 
-uint32_t model_open(uint16_t dialect, uint32_t encryption, uint16_t cipher, const uint8_t *key, size_t key_len, uint64_t session_id,
-                    uint8_t *message, size_t message_len, uint64_t *headers)
+uint32_t model_open(uint32_t role, uint16_t dialect, uint32_t encryption, uint16_t cipher, const uint8_t *key, size_t key_len,
+                    uint64_t session_id, uint8_t *message, size_t message_len, uint64_t *headers)
 {
     uint64_t visited = 0;
-    uint32_t r = model_first_tests(dialect, encryption, cipher, key_len, message_len);
+    uint32_t r = model_first_tests(role, dialect, encryption, cipher, key_len, message_len);
     if (r == 0) r = model_transform_tests(message);
     if (r == 0 && model_session_id(message) != session_id) r = 6;
     if (r != 0) return r;
@@ -196,7 +203,7 @@ uint32_t model_open(uint16_t dialect, uint32_t encryption, uint16_t cipher, cons
     struct aead how = protection(dialect, cipher, key, message);
     if (!openssl_open(&how, plaintext, n, message + 4)) r = 9;
     else if (little_endian(message + 36, 4) != n) r = 10;
-    else r = walk(plaintext, n, session_id, &visited);
+    else r = walk(plaintext, n, session_id, role == CLIENT, &visited);
     if (r == 0) {
         memcpy(message + TRANSFORM, plaintext, n);
         *headers = visited;

@@ -25,10 +25,26 @@ void look(const void *at)
     (void)*(const volatile uint8_t *)at;
 }
 
+int marks_of(const uint8_t *header)
+{
+    static const uint8_t ones[8] = {255, 255, 255, 255, 255, 255, 255, 255}, zeros[8];
+    int command = header[12] == 0x12 && header[13] == 0, message_id = memcmp(header + 24, ones, 8) == 0;
+    return (command ? COMMAND : 0) | (message_id ? MESSAGE_ID : 0) | (memcmp(header + 40, zeros, 8) == 0 ? SESSION_ID : 0);
+}
+
 void leave_plaintext(uint16_t dialect, uint16_t cipher, const uint8_t *key, uint8_t *message, size_t message_len)
 {
     struct aead how = {key, message + 20, dialect == 0x0311 && cipher == 2 ? 12 : 11, message + 20, 32};
     openssl_open(&how, message + 52, message_len - 52, message + 4);
+}
+
+int sealed_marks(uint16_t dialect, uint16_t cipher, const uint8_t *key, const uint8_t *message, size_t message_len)
+{
+    uint8_t copy[4096];
+    if (message_len > sizeof copy) return 0;
+    memcpy(copy, message, message_len);
+    leave_plaintext(dialect, cipher, key, copy, message_len);
+    return marks_of(copy + 52);
 }
 
 uint32_t __real_smb3seal_derive(uint16_t, const uint8_t *, size_t, const uint8_t *, size_t, uint8_t *, size_t);
@@ -75,16 +91,55 @@ uint32_t __wrap_smb3seal_fold_response(uint8_t *chain, size_t chain_len, const u
     return r;
 }
 
-uint32_t __real_smb3seal_seal(uint16_t, uint32_t, uint16_t, const uint8_t *, size_t, uint64_t, uint64_t *, uint8_t *, size_t,
-                              uint64_t *);
-uint32_t __wrap_smb3seal_seal(uint16_t dialect, uint32_t encryption, uint16_t cipher, const uint8_t *key, size_t key_len, uint64_t id,
-                              uint64_t *counter, uint8_t *message, size_t message_len, uint64_t *headers)
+/* The role as a wrong library reads it, sealing. What is not tested for 14 depends on nothing else. */
+static uint32_t mistake_sealing_role(uint32_t role)
 {
+    if (fault("seal: a client's notices pass too") && role == SMB3SEAL_CLIENT) return SMB3SEAL_SERVER;
+    if (fault("seal: a server's notices get 14 too") && role == SMB3SEAL_SERVER) return SMB3SEAL_CLIENT;
+    if (fault("seal: a client's notices pass, a server's do not") && role < 2) return role ^ 1;
+    if (fault("seal: role 2 is a server") && role == 2) return SMB3SEAL_SERVER;
+    if (fault("seal: any other role is a client") && role > 1) return SMB3SEAL_CLIENT;
+    if (fault("seal: the role's low byte")) return role & 0xFF;
+    return role;
+}
+
+/* The first two headers of an inner message, or NULL; a wrong library takes other marks for a notice, or tests less at one. */
+static uint32_t mistake_walk(uint32_t r, uint32_t role, const uint8_t *first, const uint8_t *second)
+{
+    int marks = marks_of(first), later = second == NULL ? 0 : marks_of(second), related = second != NULL && (second[16] & 4) != 0;
+    if (role == SMB3SEAL_SERVER && r == 14) {
+        if (fault("seal: a notice by Command and MessageId") && marks == (COMMAND | MESSAGE_ID)) return 0;
+        if (fault("seal: a notice by Command and SessionId") && marks == (COMMAND | SESSION_ID)) return 0;
+        if (fault("seal: a notice by MessageId and SessionId") && marks == (MESSAGE_ID | SESSION_ID)) return 0;
+    }
+    if (role == SMB3SEAL_SERVER && marks == NOTICE) {
+        if (fault("seal: a first header gets 14 as a notice") && r == 0) return 14;
+        if (fault("seal: a notice need not begin") && r == 12) return 0;
+        if (fault("seal: a notice may be related") && r == 13) return 0;
+        if (fault("seal: a notice ends the walk") && (r == 15 || r == 16)) return 0;
+    }
+    if (fault("seal: a later header gets 14 as a notice") && r == 0 && role == SMB3SEAL_SERVER && later == NOTICE && !related) return 14;
+    if (fault("seal: a related notice gets 14") && r == 0 && later == NOTICE && related) return 14;
+    return r;
+}
+
+uint32_t __real_smb3seal_seal(uint32_t, uint16_t, uint32_t, uint16_t, const uint8_t *, size_t, uint64_t, uint64_t *, uint8_t *, size_t,
+                              uint64_t *);
+uint32_t __wrap_smb3seal_seal(uint32_t role, uint16_t dialect, uint32_t encryption, uint16_t cipher, const uint8_t *key, size_t key_len,
+                              uint64_t id, uint64_t *counter, uint8_t *message, size_t message_len, uint64_t *headers)
+{
+    uint8_t first[64], second[64];
+    int one = message_len >= 116 && message_len < 1 << 20, two = message_len >= 180 && message_len < 1 << 20 && message[72] == 64;
+    if (one) memcpy(first, message + 52, 64);
+    if (two) memcpy(second, message + 116, 64);
+    if (fault("seal: the role is tested before 40") && role > 1) return 1;
+    role = mistake_sealing_role(role);
     if (fault("seal: GCM below 3.1.1") && dialect < 0x0311 && cipher == 2) dialect = 0x0311;
     if (fault("seal: 17 is answered one seal too early") && *counter == UINT64_MAX - 1 && key_len == 16) return 17;
     if (fault("seal: the message is taken as 32 bits long")) message_len = (uint32_t)message_len;
     if (fault("seal: a byte before the message is read")) look(message - 1);
-    uint32_t r = __real_smb3seal_seal(dialect, encryption, cipher, key, key_len, id, counter, message, message_len, headers);
+    uint32_t r = __real_smb3seal_seal(role, dialect, encryption, cipher, key, key_len, id, counter, message, message_len, headers);
+    if (one) r = mistake_walk(r, role, first, two ? second : NULL);
     if (fault("seal: a refusal clears the room") && r != 0 && message_len >= 52) memset(message, 0, 52);
     if (r != 0) return r;
     if (fault("seal: the counter stays")) *counter -= 1;
@@ -94,22 +149,40 @@ uint32_t __wrap_smb3seal_seal(uint16_t dialect, uint32_t encryption, uint16_t ci
     return r;
 }
 
-uint32_t __real_smb3seal_open(uint16_t, uint32_t, uint16_t, const uint8_t *, size_t, uint64_t, uint8_t *, size_t, uint64_t *);
-uint32_t __wrap_smb3seal_open(uint16_t dialect, uint32_t encryption, uint16_t cipher, const uint8_t *key, size_t key_len, uint64_t id,
-                              uint8_t *message, size_t message_len, uint64_t *headers)
+/* The role as a wrong library reads it, opening. */
+static uint32_t mistake_opening_role(uint32_t role)
 {
+    if (fault("open: notices from a client pass too") && role == SMB3SEAL_SERVER) return SMB3SEAL_CLIENT;
+    if (fault("open: notices from a server get 14 too") && role == SMB3SEAL_CLIENT) return SMB3SEAL_SERVER;
+    if (fault("open: the role of the own direction") && role < 2) return role ^ 1;
+    if (fault("open: role 2 is a server") && role == 2) return SMB3SEAL_SERVER;
+    if (fault("open: any other role is a client") && role > 1) return SMB3SEAL_CLIENT;
+    if (fault("open: the role's low byte")) return role & 0xFF;
+    return role;
+}
+
+uint32_t __real_smb3seal_open(uint32_t, uint16_t, uint32_t, uint16_t, const uint8_t *, size_t, uint64_t, uint8_t *, size_t, uint64_t *);
+uint32_t __wrap_smb3seal_open(uint32_t role, uint16_t dialect, uint32_t encryption, uint16_t cipher, const uint8_t *key, size_t key_len,
+                              uint64_t id, uint8_t *message, size_t message_len, uint64_t *headers)
+{
+    if (fault("open: the role is tested before 40") && role > 1) return 1;
+    role = mistake_opening_role(role);
     if (fault("open: does nothing")) return 0;
     if (fault("open: refuses everything")) return 9;
     if (fault("open: Reserved is not in the tag") && message_len > 52) message[40] = message[41] = 0;
     if (fault("open: the key is written")) touch(key);
     if (fault("open: a byte behind the key is read")) look(key + key_len);
-    uint32_t r = __real_smb3seal_open(dialect, encryption, cipher, key, key_len, id, message, message_len, headers);
+    uint32_t r = __real_smb3seal_open(role, dialect, encryption, cipher, key, key_len, id, message, message_len, headers);
     if (fault("open: a byte behind the message is written")) touch(message + message_len);
     int bad_tag = r == 9 && fault("open: plaintext is left after a bad tag");
     int behind_tag = r > 10 && r < 17 && fault("open: plaintext is left after the walk");
     if (bad_tag || behind_tag) leave_plaintext(dialect, cipher, key, message, message_len);
     if (fault("open: 10 before 9") && r == 9 && message[36] != (uint8_t)(message_len - 52)) return 10;
     if (fault("open: 16 for 15") && r == 15) return 16;
+    int marks = r == 14 && role == SMB3SEAL_CLIENT ? sealed_marks(dialect, cipher, key, message, message_len) : 0;
+    if (fault("open: a notice by Command and MessageId") && marks == (COMMAND | MESSAGE_ID)) return 0;
+    if (fault("open: a notice by Command and SessionId") && marks == (COMMAND | SESSION_ID)) return 0;
+    if (fault("open: a notice by MessageId and SessionId") && marks == (MESSAGE_ID | SESSION_ID)) return 0;
     if (fault("open: a refusal clears the count") && r != 0) *headers = 0;
     if (fault("open: the header is cleared") && r == 0) memset(message, 0, 52);
     return r;

@@ -1,7 +1,7 @@
 /*
  * Each number but 3 (lengths_test.c), and which comes first. Every set of faults is made at once and must get the number of the
  * first of them in the order of the rules. Then whole fields: every dialect, every cipher, every value of the transform
- * header's Flags.
+ * header's Flags; and roles.
  */
 #include <string.h>
 
@@ -171,6 +171,39 @@ static void every_cipher(uint16_t dialect)
     }
 }
 
+/* 0 and 1 are roles. Any other number gets 1, behind 40 and before 2, and picks no walk. */
+static void every_role(enum function function, uint16_t cipher)
+{
+    for (unsigned bit = 0; bit <= 32 + 256; bit++) {
+        uint32_t role = bit < 32 ? (uint32_t)1 << bit : bit < 32 + 256 ? bit - 32 : UINT32_MAX;
+        struct call c = plain_call(function, cipher, HEADER);
+        begin_case(role);
+        c.role = role;
+        put_transform(&c, bit);
+        if (function == OPEN) forge(&c);
+        expect_answer(&c, role <= 1 ? 0 : 1, "a role");
+        c.message.len = TRANSFORM;
+        expect_answer(&c, role <= 1 ? 2 : 1, "a role and 2");
+        c.key.len = 15;
+        expect_answer(&c, 40, "a role and 40");
+    }
+}
+
+/* A break notice: from a server it is done, from a client 14, from no role 1. */
+static void notice_of_every_role(enum function function, uint16_t cipher)
+{
+    for (uint32_t role = 0; role <= 0x101; role++) {
+        int from_server = role == (function == SEAL ? 1 : 0);
+        struct call c = plain_call(function, cipher, HEADER);
+        begin_case(role);
+        c.role = role;
+        mark_as_notice(c.message.at + TRANSFORM);
+        put_transform(&c, role);
+        if (function == OPEN) forge(&c);
+        expect_answer(&c, role > 1 ? 1 : from_server ? 0 : 14, "a break notice");
+    }
+}
+
 static void every_flags(uint16_t cipher)
 {
     for (uint32_t flags = 0; flags <= 0xFFFF; flags++) {
@@ -202,6 +235,10 @@ int main(int argc, char **argv)
         every_set(OPEN, cipher, AT_OPEN);
         every_dialect(cipher);
         every_flags(cipher);
+        for (enum function f = SEAL; f <= OPEN; f++) {
+            every_role(f, cipher);
+            notice_of_every_role(f, cipher);
+        }
     }
     every_cipher(0x0300);
     every_cipher(0x0302);

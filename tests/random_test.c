@@ -1,17 +1,28 @@
 /*
  * Random calls of the functions, by the library and by the model: the same answers, and the same bytes and numbers in all that
- * was lent. At the end every number that a function can answer must have come up, but 3: lengths_test.c has it.
+ * was lent. At the end every number that a function can answer must have come up, but 3: lengths_test.c has it; and break notices that
+ * are sealed and opened, often.
  *
  * Usage: random_test [SEED [CASES [FIRST]]]: a case is made again by its number, with CASES 1.
  */
 #include <stdlib.h>
+#include <string.h>
 
 #include "check.h"
 #include "generate.h"
+#include "messages.h"
 
 enum { CASES = 200000, NUMBERS = 41, ENOUGH = 20000 };
 
-static unsigned long seen[FUNCTIONS][NUMBERS];
+static unsigned long seen[FUNCTIONS][NUMBERS], notices[FUNCTIONS];
+
+/* Whether the first inner header, where it is in clear, has another id than the call's. */
+static int names_another(const struct call *c)
+{
+    uint8_t id[8];
+    put(id, c->id, 8);
+    return c->message.len >= TRANSFORM + HEADER && memcmp(c->message.at + TRANSFORM + 40, id, 8) != 0;
+}
 
 static const struct { enum function function; uint32_t number; } answers[] = {
     {DERIVE, 0}, {DERIVE, 18}, {DERIVE, 19}, {DERIVE, 40}, {FOLD, 0}, {FOLD, 23}, {FOLD, 40}, {FOLD_RESPONSE, 0},
@@ -28,11 +39,16 @@ int main(int argc, char **argv)
     for (unsigned long i = first; i < first + cases; i++) {
         begin_case(i);
         struct call c = generate();
+        int another = names_another(&c);
         uint32_t r = compare(&c, &heap);
+        if (c.function == OPEN) another = names_another(&c);
+        if (r == 0 && another) notices[c.function]++;
         if (r >= NUMBERS) fail("a number that the rules does not have", r);
         seen[c.function][r]++;
     }
     for (size_t i = 0; i < COUNT(answers) && cases >= ENOUGH; i++)
         expect(seen[answers[i].function][answers[i].number] >= 10, "an answer that hardly came up", answers[i].number);
+    for (enum function f = SEAL; f <= OPEN && cases >= ENOUGH; f++)
+        expect(notices[f] >= cases / 400, "break notices hardly came up", notices[f]);
     return finish();
 }

@@ -59,11 +59,12 @@ static void derive(const char *text)
 static void reseal(int direction, const char *text)
 {
     const uint8_t *key = keys + (direction == 0 ? SMB3SEAL_CLIENT_TO_SERVER_KEY : SMB3SEAL_SERVER_TO_CLIENT_KEY);
+    uint32_t sender = direction == 0 ? SMB3SEAL_CLIENT : SMB3SEAL_SERVER, receiver = direction == 0 ? SMB3SEAL_SERVER : SMB3SEAL_CLIENT;
     size_t n = read_bytes(text, bytes, ROOM);
     uint64_t opened = 0, sealed = 0;
-    uint32_t r = smb3seal_open(dialect, 1, cipher, key, 16, id, bytes, n, &opened);
+    uint32_t r = smb3seal_open(receiver, dialect, 1, cipher, key, 16, id, bytes, n, &opened);
     memset(bytes, 0, r == 0 ? SMB3SEAL_HEADER_BYTES : 0);
-    if (r == 0) r = smb3seal_seal(dialect, 1, cipher, key, 16, id, &counters[direction], bytes, n, &sealed);
+    if (r == 0) r = smb3seal_seal(sender, dialect, 1, cipher, key, 16, id, &counters[direction], bytes, n, &sealed);
     if (r != 0 || opened != sealed) {
         printf("refused %u\n", r);
         return;

@@ -172,6 +172,7 @@ struct call under_key(const struct table_call *c)
 {
     return (struct call){
         .function = OPEN,
+        .role = c->connection.role,
         .dialect = c->connection.dialect,
         .cipher = c->connection.cipher,
         .encryption = 1,

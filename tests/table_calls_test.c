@@ -137,7 +137,7 @@ static void sealing(uint16_t cipher, uint8_t role, uint64_t counter)
     expect(c.headers == 1 && c.table[PLACE].counter == counter + 1, "headers sealed, and the counter", c.table[PLACE].counter);
     c.table[PLACE].counter = counter;
     expect_others_kept(&c, RECORDS, "sealing changes one counter alone");
-    uint32_t r = smb3seal_seal(c.connection.dialect, 1, cipher, key, 16, SESSION, &same, message, sizeof message, &headers);
+    uint32_t r = smb3seal_seal(role, c.connection.dialect, 1, cipher, key, 16, SESSION, &same, message, sizeof message, &headers);
     expect(r == 0 && memcmp(message, c.message.at, sizeof message) == 0, "the bytes of sealing under the record's key", role);
 }
 
@@ -170,6 +170,30 @@ static void compound(uint16_t cipher)
     c.headers = 0;
     expect_table_answer(&c, 0, "opening three headers");
     expect(c.headers == 3, "headers opened", c.headers);
+}
+
+/* A break notice goes from the server to the client, in a message of its own and behind another header; a client's gets 14. */
+static void break_notice(uint16_t cipher, uint8_t role, size_t place)
+{
+    struct table_call c = plain_table_call(TABLE_SEAL, cipher, place + HEADER);
+    put_header(c.message.at + TRANSFORM, 0, (uint32_t)place, SESSION);
+    put_header(c.message.at + TRANSFORM + place, 0, 0, SESSION);
+    mark_as_notice(c.message.at + TRANSFORM + place);
+    c.connection.role = role;
+    for (size_t at = 12; at <= 40; at += at == 12 ? 12 : 16) {
+        c.message.at[TRANSFORM + place + at] ^= 1;
+        expect_table_answer(&c, 14, "sealing a notice with two marks");
+        c.message.at[TRANSFORM + place + at] ^= 1;
+    }
+    expect_table_answer(&c, role == SMB3SEAL_SERVER ? 0 : 14, "sealing a break notice");
+    c.connection.role = role ^ 1;
+    c.function = TABLE_OPEN;
+    if (role == SMB3SEAL_CLIENT) {
+        struct call under = under_key(&c);
+        put_transform(&under, 3);
+        forge(&under);
+    }
+    expect_table_answer(&c, role == SMB3SEAL_SERVER ? 0 : 14, "opening a break notice");
 }
 
 /* ---- lookup */
@@ -389,6 +413,8 @@ int main(int argc, char **argv)
             sealing(cipher, role, 0xFF);
             sealing(cipher, role, 0x00FFFFFFFFFFFFFF);
             sealing(cipher, role, UINT64_MAX - 1);
+            break_notice(cipher, role, 0);
+            break_notice(cipher, role, HEADER);
         }
         counter_end(cipher);
         compound(cipher);

@@ -72,6 +72,7 @@ static void take_message(struct table_call *c)
     c->message.len = TRANSFORM + n;
     memset(c->message.at, 0, c->message.len);
     put_header(inner, 0, 0, c->id);
+    if ((choice & 3) == 3) mark_as_notice(inner);
     if (choice & 1) take_bytes(inner + take(1) % n, 1);
     if (choice & 2) take_bytes(inner + 16, 8);
     if (choice & 4) take_bytes(inner + HEADER, n - HEADER);

@@ -56,16 +56,16 @@ uint32_t model_table_remove(struct smb3seal_session *table, size_t table_len, ui
 
 /* ---- sealing and opening */
 
-/* Whether encryption was agreed on. A role that is none, and a byte that no rule knows, mean that nothing was. */
+/* Whether encryption was agreed on. A byte that no rule knows means that nothing was. */
 static uint32_t agreed(struct smb3seal_connection c)
 {
-    return c.encryption != 0 && (c.role == SMB3SEAL_CLIENT || c.role == SMB3SEAL_SERVER) && c.spare == 0;
+    return c.encryption != 0 && c.spare == 0;
 }
 
 /* 1, 2 and 3. */
 static uint32_t first_tests(struct smb3seal_connection c, size_t message_len)
 {
-    return model_first_tests(c.dialect, agreed(c), c.cipher, 16, message_len);
+    return model_first_tests(c.role, c.dialect, agreed(c), c.cipher, 16, message_len);
 }
 
 /* 6, 7 and 8, on the record at this place. */
@@ -85,7 +85,8 @@ uint32_t model_table_seal(struct smb3seal_session *table, size_t table_len, stru
     if (r != 0) return r;
     struct smb3seal_session *s = &table[place];
     const uint8_t *key = connection.role == SMB3SEAL_CLIENT ? s->client_to_server : s->server_to_client;
-    return model_seal(connection.dialect, 1, connection.cipher, key, 16, session_id, &s->counter, message, message_len, headers);
+    return model_seal(connection.role, connection.dialect, 1, connection.cipher, key, 16, session_id, &s->counter, message, message_len,
+                      headers);
 }
 
 uint32_t model_table_open(const struct smb3seal_session *table, size_t table_len, struct smb3seal_connection connection,
@@ -100,5 +101,5 @@ uint32_t model_table_open(const struct smb3seal_session *table, size_t table_len
     if (r != 0) return r;
     const struct smb3seal_session *s = &table[place];
     const uint8_t *key = connection.role == SMB3SEAL_CLIENT ? s->server_to_client : s->client_to_server;
-    return model_open(connection.dialect, 1, connection.cipher, key, 16, id, message, message_len, headers);
+    return model_open(connection.role, connection.dialect, 1, connection.cipher, key, 16, id, message, message_len, headers);
 }

@@ -296,6 +296,21 @@ static void mistake_step(session *s, const session *before, uint32_t r)
     if (r == 17 && fault("table_seal: 17 frees the record")) memset(s, 0, sizeof *s);
 }
 
+/* The marks of the first inner header, or none. */
+static int inner_marks(const uint8_t *message, size_t message_len)
+{
+    return message_len >= 116 ? marks_of(message + 52) : 0;
+}
+
+/* The role picks the key, and whether a notice passes: a wrong library, by marks that were looked at before it sealed. */
+static uint32_t mistake_notice(uint32_t r, connection c, int marks)
+{
+    if (fault("table_seal: a server's notices get 14 too") && r == 0 && c.role == SMB3SEAL_SERVER && marks == NOTICE) return 14;
+    if (fault("table_seal: a client's notices pass too") && r == 14 && c.role == SMB3SEAL_CLIENT && marks == NOTICE) return 0;
+    if (fault("table_seal: a notice by two marks") && r == 14 && c.role == SMB3SEAL_SERVER && marks == (COMMAND | SESSION_ID)) return 0;
+    return r;
+}
+
 static uint32_t mistake_seal_order(uint32_t r, connection c, const session *s)
 {
     if (fault("table_seal: 6 before 1") && r == 1 && s == NULL) return 6;
@@ -316,6 +331,7 @@ uint32_t __wrap_smb3seal_table_seal(session *table, size_t n, connection c, uint
     if (fault("table_seal: a byte behind the table is written")) touch(table + n);
     if (fault("table_seal: a byte behind the message is read")) look(message + message_len);
     size_t place = search(table, n, id, seal_lookup());
+    int marks = inner_marks(message, message_len);
     session before = {0}, read = {0};
     if (place < n) before = read = table[place];
     read.used = place < n;
@@ -329,6 +345,7 @@ uint32_t __wrap_smb3seal_table_seal(session *table, size_t n, connection c, uint
     if (fault("table_seal: the count is always 1") && r == 0) *headers = 1;
     if (fault("table_seal: a wrong bit of the tag") && r == 0) message[19] ^= 0x80;
     if (fault("table_seal: a refusal clears the room") && r != 0 && message_len >= 52) memset(message, 0, 52);
+    r = mistake_notice(r, c, marks);
     return mistake_seal_order(r, c, place < n ? &before : NULL);
 }
 
@@ -400,6 +417,9 @@ uint32_t __wrap_smb3seal_table_open(const session *table, size_t n, connection c
     mistake_opening(&as_read, &read);
     uint32_t r = __real_smb3seal_table_open(&read, 1, as_read, message, message_len, headers);
     if (place < n) mistake_table(&table[place], r);
+    if (fault("table_open: notices from a server get 14 too") && r == 0 && inner_marks(message, message_len) == NOTICE) return 14;
+    if (fault("table_open: notices from a client pass too") && r == 14 && c.role == SMB3SEAL_SERVER)
+        if (sealed_marks(c.dialect, c.cipher, read.client_to_server, message, message_len) == NOTICE) return 0;
     if (fault("table_open: plaintext is left after the walk") && r > 10 && r < 17)
         leave_plaintext(c.dialect, c.cipher, c.role == SMB3SEAL_CLIENT ? read.server_to_client : read.client_to_server, message,
                         message_len);

@@ -1,7 +1,7 @@
-//! What a connection agreed on, for calls with a session table.
+//! Which end this is, and what a connection agreed on, for calls with a session table.
 use crate::{ffi, Protection};
 
-/// Which end of a connection this is. It picks the key of each direction.
+/// Which end of a connection this is. It says from where a message comes, and with a session table it picks the key.
 #[derive(Clone, Copy, Debug, PartialEq, Eq)]
 pub enum Role {
     /// Seals with the client-to-server key.
@@ -21,6 +21,15 @@ pub struct Connection {
     pub constrained: bool,
 }
 
+impl Role {
+    pub(crate) const fn number(self) -> u8 {
+        match self {
+            Role::Client => 0,
+            Role::Server => 1,
+        }
+    }
+}
+
 impl Connection {
     /// A connection that is not constrained.
     pub const fn new(role: Role, protection: Protection) -> Self {
@@ -35,10 +44,7 @@ impl Connection {
         ffi::Connection {
             dialect: self.protection.dialect.0,
             cipher: self.protection.cipher.0,
-            role: match self.role {
-                Role::Client => 0,
-                Role::Server => 1,
-            },
+            role: self.role.number(),
             encryption: self.protection.encryption.into(),
             constrained: self.constrained.into(),
             spare: 0,

@@ -49,6 +49,7 @@ extern "C" {
         keys_len: usize,
     ) -> u32;
     pub fn smb3seal_seal(
+        role: u32,
         dialect: u16,
         encryption: u32,
         cipher: u16,
@@ -61,6 +62,7 @@ extern "C" {
         headers: *mut u64,
     ) -> u32;
     pub fn smb3seal_open(
+        role: u32,
         dialect: u16,
         encryption: u32,
         cipher: u16,

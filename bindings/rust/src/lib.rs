@@ -209,11 +209,14 @@ impl fmt::Debug for Keys {
 /// Seals in place: `message` is [`HEADER_BYTES`] of room and behind them the inner message, and becomes the sealed message.
 /// Returns the number of inner headers.
 ///
+/// `role` is this end's: a break notice, which has the SessionId 0, is sealed by a server alone. It does not pick the key.
+///
 /// `counter` is the send counter of this key: it becomes the nonce, and is then one more. Start it at 0 for a new key, and never
 /// seal twice under one key with one value; a [`Sealer`] keeps it for you.
 ///
 /// Refuses with the numbers 1, 2, 3 and 11 to 17.
 pub fn seal(
+    role: Role,
     protection: &Protection,
     key: &Key,
     session_id: u64,
@@ -225,6 +228,7 @@ pub fn seal(
     // mutably, so nothing overlaps.
     let number = unsafe {
         ffi::smb3seal_seal(
+            role.number().into(),
             protection.dialect.0,
             protection.encryption.into(),
             protection.cipher.0,
@@ -243,11 +247,12 @@ pub fn seal(
 /// Opens in place: `message` is a whole received message; its first [`HEADER_BYTES`] stay, and the rest becomes the plaintext.
 /// Returns the number of inner headers. After a refusal no byte of plaintext is left.
 ///
-/// `session_id` is the session that the caller looked up by the header. A message that arrives twice opens twice: whether its
-/// MessageId was seen before is for the caller to check.
+/// `role` is that of the end that opens: a client opens break notices. `session_id` is the session that the caller looked up by the
+/// header. A message that arrives twice opens twice: whether its MessageId was seen before is for the caller to check.
 ///
 /// Refuses with the numbers 1 to 6 and 9 to 16.
 pub fn open(
+    role: Role,
     protection: &Protection,
     key: &Key,
     session_id: u64,
@@ -257,6 +262,7 @@ pub fn open(
     // SAFETY: as in `seal`.
     let number = unsafe {
         ffi::smb3seal_open(
+            role.number().into(),
             protection.dialect.0,
             protection.encryption.into(),
             protection.cipher.0,

@@ -28,7 +28,7 @@ macro_rules! refusals {
 }
 
 refusals! {
-    NOT_ENCRYPTING = 1, "this connection does not encrypt: dialect, setting or cipher";
+    NOT_ENCRYPTING = 1, "this connection does not encrypt: dialect, role, setting or cipher";
     TOO_SHORT = 2, "the message is not longer than a transform header";
     TOO_LONG = 3, "the message is longer than 1,048,576 bytes, those behind its transform header if it has one";
     NOT_TRANSFORM = 4, "the message does not begin with a transform header";

@@ -1,5 +1,5 @@
 //! The sessions published with sealed messages (vectors/smb3.json), through the wrapper.
-use smb3seal::{open, seal, sign, verify, Chain, Cipher, Dialect, Keys, Protection};
+use smb3seal::{open, seal, sign, verify, Chain, Cipher, Dialect, Keys, Protection, Role};
 
 const FILE: &str = include_str!("../../../vectors/smb3.json");
 
@@ -73,13 +73,13 @@ fn session(name: &str, cipher: Cipher) {
     for transform in transforms {
         let published = bytes(field(transform, "message"));
         let from_client = field(transform, "direction") == "c2s";
-        let key = if from_client {
-            &keys.client_to_server
+        let (key, sender, receiver) = if from_client {
+            (&keys.client_to_server, Role::Client, Role::Server)
         } else {
-            &keys.server_to_client
+            (&keys.server_to_client, Role::Server, Role::Client)
         };
         let mut message = published.clone();
-        assert_eq!(open(&connection, key, id, &mut message), Ok(1));
+        assert_eq!(open(receiver, &connection, key, id, &mut message), Ok(1));
         assert_eq!(message[52..], bytes(field(transform, "plaintext")));
         if field(transform, "sealed_by_our_rule") == "true" {
             let nonce = bytes(field(transform, "Nonce"));
@@ -87,7 +87,7 @@ fn session(name: &str, cipher: Cipher) {
             let mut counter = before;
             message[..52].fill(0x55);
             assert_eq!(
-                seal(&connection, key, id, &mut counter, &mut message),
+                seal(sender, &connection, key, id, &mut counter, &mut message),
                 Ok(1)
             );
             assert_eq!((message, counter), (published, before + 1));

@@ -1,6 +1,6 @@
 //! What is refused, with which number, and that a refusal changes nothing.
 use smb3seal::{
-    open, seal, sign, verify, Chain, Cipher, Dialect, Keys, Protection, Refusal, Sealer,
+    open, seal, sign, verify, Chain, Cipher, Dialect, Keys, Protection, Refusal, Role, Sealer,
     HEADER_BYTES, LONGEST_MESSAGE,
 };
 
@@ -17,14 +17,20 @@ fn plain(inner: usize) -> Vec<u8> {
 
 fn sealed(inner: usize) -> Vec<u8> {
     let mut message = plain(inner);
-    assert_eq!(seal(&GCM, &KEY, 5, &mut 3, &mut message), Ok(1));
+    assert_eq!(
+        seal(Role::Client, &GCM, &KEY, 5, &mut 3, &mut message),
+        Ok(1)
+    );
     message
 }
 
 /// Opening refuses with this number and leaves the message.
 fn opening(protection: &Protection, mut message: Vec<u8>, expected: Refusal) {
     let lent = message.clone();
-    assert_eq!(open(protection, &KEY, 5, &mut message), Err(expected));
+    assert_eq!(
+        open(Role::Server, protection, &KEY, 5, &mut message),
+        Err(expected)
+    );
     assert_eq!(message, lent);
 }
 
@@ -32,7 +38,14 @@ fn opening(protection: &Protection, mut message: Vec<u8>, expected: Refusal) {
 fn sealing(protection: &Protection, from: u64, mut message: Vec<u8>, expected: Refusal) {
     let (lent, mut counter) = (message.clone(), from);
     assert_eq!(
-        seal(protection, &KEY, 5, &mut counter, &mut message),
+        seal(
+            Role::Client,
+            protection,
+            &KEY,
+            5,
+            &mut counter,
+            &mut message
+        ),
         Err(expected)
     );
     assert_eq!((message, counter), (lent, from));
@@ -136,16 +149,40 @@ fn folds_and_keys() {
 /// A refused message takes no counter value; the next two take 0 and 1.
 #[test]
 fn sealer_keeps_the_counter() {
-    let mut sealer = Sealer::new(GCM, KEY, 5);
+    let mut sealer = Sealer::new(Role::Client, GCM, KEY, 5);
     assert_eq!(sealer.seal(&mut plain(63)), Err(Refusal::INNER_TOO_SHORT));
     for nonce in 0..2 {
         let (mut message, mut counter) = (plain(64), nonce);
         let mut expected = message.clone();
         assert_eq!(sealer.seal(&mut message), Ok(1));
-        assert_eq!(seal(&GCM, &KEY, 5, &mut counter, &mut expected), Ok(1));
+        assert_eq!(
+            seal(Role::Client, &GCM, &KEY, 5, &mut counter, &mut expected),
+            Ok(1)
+        );
         assert_eq!(message, expected);
         assert_eq!(message[20..28], nonce.to_le_bytes());
     }
+}
+
+/// Three marks, of which each missing alone gives 14; and only what comes from a server may be one.
+#[test]
+fn break_notices() {
+    let mut notice = plain(64);
+    notice[64] = 0x12;
+    notice[76..84].fill(0xFF);
+    notice[92] = 0;
+    sealing(&GCM, 9, notice.clone(), Refusal::INNER_SESSION);
+    let mut server = Sealer::new(Role::Server, GCM, KEY, 5);
+    for place in [64, 83, 92] {
+        let mut near = notice.clone();
+        near[place] ^= 1;
+        assert_eq!(server.seal(&mut near), Err(Refusal::INNER_SESSION));
+    }
+    let mut sealed = notice.clone();
+    assert_eq!(server.seal(&mut sealed), Ok(1));
+    opening(&GCM, sealed.clone(), Refusal::INNER_SESSION);
+    assert_eq!(open(Role::Client, &GCM, &KEY, 5, &mut sealed), Ok(1));
+    assert_eq!(sealed[52..], notice[52..]);
 }
 
 #[test]

@@ -49,7 +49,14 @@ fn both_ways(agreed: Protection) {
             let (mut expected, mut counter) = (message.clone(), nonce);
             let headers = tables[i].seal(&ends[i], login.session_id, &mut message);
             assert_eq!(headers, Ok(1));
-            let headers = seal(&agreed, key, login.session_id, &mut counter, &mut expected);
+            let headers = seal(
+                ends[i].role,
+                &agreed,
+                key,
+                login.session_id,
+                &mut counter,
+                &mut expected,
+            );
             assert_eq!(headers, Ok(1));
             assert_eq!(message, expected);
             assert_eq!(tables[i].records()[0].sealed(), nonce + 1);
@@ -72,7 +79,14 @@ fn both_ways(agreed: Protection) {
                 );
                 assert_eq!(arrived[52..], plain(login.session_id)[52..]);
             }
-            assert_eq!(open(&agreed, key, login.session_id, &mut message), Ok(1));
+            let at_receiver = open(
+                ends[1 - i].role,
+                &agreed,
+                key,
+                login.session_id,
+                &mut message,
+            );
+            assert_eq!(at_receiver, Ok(1));
         }
     }
 }

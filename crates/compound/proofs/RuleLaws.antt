@@ -4,11 +4,10 @@ use mathlib.Core.Path.{_≡_}
 use mathlib.Core.Bool.{true, false, not, _&&_}
 use Prim.Native.Nat.{ℕ, _+_, _%_, _≤_, _<_}
 use borrow.Author.Tests.{eq-eqb, ne-eqb, lt-ltb, le-ltb}
-use lib.Dec.{eqb}
 use lib.ListN.{length}
 use Rattle.protocol.specs.Bytes.{Bytes}
 use Rattle.protocol.specs.Answer.{firstOf}
-use Rattle.protocol.specs.InnerHeader.{isInnerHeader, isRelated, innerSessionId, Envelope}
+use Rattle.protocol.specs.InnerHeader.{isInnerHeader, isRelated, Envelope, belongs}
 use Rattle.protocol.specs.Compound.{firstHeaderTests, nextHeaderTests}
 
 module _ (m : Bytes) (e : Envelope) where
@@ -24,11 +23,11 @@ module _ (m : Bytes) (e : Envelope) where
       first-13 b = rw (le-ltb (length m) 64 long, a, b)
 
       module _ (b : isRelated m 0 ≡ false) where
-        pub first-14 : (innerSessionId m 0 ≡ e .id → ⊥) → 14 ≡ firstOf (firstHeaderTests m e)
-        first-14 c = rw (le-ltb (length m) 64 long, a, b, ne-eqb (innerSessionId m 0) (e .id) c)
+        pub first-14 : belongs m e 0 ≡ false → 14 ≡ firstOf (firstHeaderTests m e)
+        first-14 c = rw (le-ltb (length m) 64 long, a, b, c)
 
-        pub first-none : innerSessionId m 0 ≡ e .id → 0 ≡ firstOf (firstHeaderTests m e)
-        first-none c = rw (le-ltb (length m) 64 long, a, b, eq-eqb (innerSessionId m 0) (e .id) c)
+        pub first-none : belongs m e 0 ≡ true → 0 ≡ firstOf (firstHeaderTests m e)
+        first-none c = rw (le-ltb (length m) 64 long, a, b, c)
 
 module _ (m : Bytes) (e : Envelope) (p d : ℕ) where
   pub next-15-near : d < 64 → 15 ≡ firstOf (nextHeaderTests m e p d)
@@ -47,8 +46,8 @@ module _ (m : Bytes) (e : Envelope) (p d : ℕ) where
         next-12 a = rw (le-ltb d 64 far, le-ltb (length m) (p + d + 64) inside, eq-eqb (d % 8) 0 even, a)
 
         module _ (a : isInnerHeader m (p + d) ≡ true) where
-          pub next-14 : (not (isRelated m (p + d)) && not (eqb (innerSessionId m (p + d)) (e .id))) ≡ true → 14 ≡ firstOf (nextHeaderTests m e p d)
+          pub next-14 : (not (isRelated m (p + d)) && not (belongs m e (p + d))) ≡ true → 14 ≡ firstOf (nextHeaderTests m e p d)
           next-14 b = rw (le-ltb d 64 far, le-ltb (length m) (p + d + 64) inside, eq-eqb (d % 8) 0 even, a, b)
 
-          pub next-none : (not (isRelated m (p + d)) && not (eqb (innerSessionId m (p + d)) (e .id))) ≡ false → 0 ≡ firstOf (nextHeaderTests m e p d)
+          pub next-none : (not (isRelated m (p + d)) && not (belongs m e (p + d))) ≡ false → 0 ≡ firstOf (nextHeaderTests m e p d)
           next-none b = rw (le-ltb d 64 far, le-ltb (length m) (p + d + 64) inside, eq-eqb (d % 8) 0 even, a, b)

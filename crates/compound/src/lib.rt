@@ -11,9 +11,10 @@ ghost use Rattle.protocol.specs.Compound.{walk};
 ghost use Rattle.answer.specs.Reading.{answerOf};
 ghost use Rattle.compound.specs.Reading.{envelopeOf};
 
-// What is known of an inner message from outside: the id of the session that it is sealed for.
+// What is known of an inner message from outside: the id of the session that it is sealed for, and whether it comes from the server.
 pub struct Envelope {
     pub id: u64,
+    pub from_server: bool,
 }
 
 // The walk over the inner message: how many headers it visits, or the first broken rule.

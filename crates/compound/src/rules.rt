@@ -1,7 +1,7 @@
 // The rules that the walk tests at a header, as the number of the first one that is broken, or 0.
 use crate::Envelope;
+use crate::header::belongs;
 use crate::header::is_related;
-use crate::header::session_id;
 use protocol_id::begins;
 ghost use mathlib.Core.Path.{_≡_};
 ghost use Prim.Native.Nat.{_+_, _≤_};
@@ -23,7 +23,7 @@ pub fn first_number(m: &[u8], e: Envelope) -> u32
     if is_related(m, 0) {
         return 13;
     }
-    if session_id(m, 0) != e.id {
+    if !belongs(m, 0, e) {
         return 14;
     }
     0
@@ -48,7 +48,7 @@ pub fn next_number(m: &[u8], e: Envelope, p: usize, d: usize) -> u32
     if !begins(m, q, 0xFE) {
         return 12;
     }
-    if !is_related(m, q) & (session_id(m, q) != e.id) {
+    if !is_related(m, q) & !belongs(m, q, e) {
         return 14;
     }
     0

@@ -10,6 +10,10 @@ use Rattle.connection.specs.declared.Connection.{Connection}
 abbrev pub flag : ℕ → Bool
 flag x = not (eqb x 0)
 
+-- and a flag as the library stores it
+abbrev pub bitOf : Bool → ℕ
+bitOf b = cond b 1 0
+
 -- 0 for a client, 1 for a server
 abbrev pub roleOf : ℕ → rules.Role
 roleOf r = cond (eqb r 0) rules.client rules.server
@@ -22,8 +26,8 @@ abbrev pub connectionOf : Connection → rules.Connection
 connectionOf c =
     record { role = roleOf (c .role); dialect = c .dialect; encryption = agreed c; cipher = c .cipher; constrained = flag (c .constrained) }
 
--- what a call under one given key is told of its connection, as numbers: the dialect, encryption (0 for off, anything else for on) and
--- the cipher. Such a call looks neither at the role nor at the constraint
-abbrev pub underKey : ℕ → ℕ → ℕ → rules.Connection
-underKey dialect encryption cipher =
-    record { role = rules.client; dialect = dialect; encryption = not (eqb encryption 0); cipher = cipher; constrained = false }
+-- what a call under one given key is told of its connection, as numbers: the role, where any number above 1 means that nothing was agreed,
+-- the dialect, encryption (0 for off, anything else for on) and the cipher. Such a call does not look at the constraint
+abbrev pub underKey : ℕ → ℕ → ℕ → ℕ → rules.Connection
+underKey role dialect encryption cipher =
+    record { role = roleOf role; dialect = dialect; encryption = flag encryption && leb role 1; cipher = cipher; constrained = false }

@@ -1,7 +1,7 @@
 // What a connection agreed on (RULES 1 and 6). Every function above takes it by value.
 ghost use mathlib.Core.Path.{_≡_};
 ghost use Rattle.protocol.specs.Connection.{knownDialect, encrypts, cipherUsed, longestMessage, lastCounter};
-ghost use Rattle.connection.specs.Reading.{connectionOf, underKey};
+ghost use Rattle.connection.specs.Reading.{bitOf, connectionOf, underKey};
 
 pub const CLIENT: u8 = 0;
 
@@ -54,16 +54,22 @@ pub fn cipher_used(c: Connection) -> u16
     if c.dialect == 0x0311 { c.cipher } else { 1 }
 }
 
-// A connection by the numbers that a call under one given key takes.
-pub fn under_key(dialect: u16, encryption: u32, cipher: u16) -> Connection
-    ensures { λ r. ⌜ connectionOf r ≡ underKey dialect encryption cipher ⌝ }
+// A flag as the library stores it.
+pub fn bit(on: bool) -> u8
+    ensures { λ r. ⌜ r ≡ bitOf on ⌝ }
 {
-    let on = if encryption == 0 { 0 } else { 1 };
+    if on { 1 } else { 0 }
+}
+
+// A connection by the numbers that a call under one given key takes.
+pub fn under_key(role: u32, dialect: u16, encryption: u32, cipher: u16) -> Connection
+    ensures { λ r. ⌜ connectionOf r ≡ underKey role dialect encryption cipher ⌝ }
+{
     Connection {
         dialect: dialect,
         cipher: cipher,
-        role: CLIENT,
-        encryption: on,
+        role: bit(role != 0),
+        encryption: bit((encryption != 0) & (role <= 1)),
         constrained: 0,
         spare: 0,
     }

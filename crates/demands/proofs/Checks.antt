@@ -15,11 +15,11 @@ use Rattle.octets.specs.Same.{sameBytes}
 use Rattle.octets.proofs.SameLaws.{same-self, same-equal}
 use Rattle.protocol.specs.Bytes.{Bytes}
 use Rattle.protocol.specs.Answer.{Test}
-use Rattle.protocol.specs.Connection.{Connection, knownDialect, encrypts, cipherUsed}
+use Rattle.protocol.specs.Connection.{other, Connection, knownDialect, encrypts, cipherUsed}
 use Rattle.protocol.specs.TransformHeader.{headerOf, protocolId, inner, originalMessageSize, flagsOf, sessionIdOf}
 use Rattle.protocol.specs.SessionTable.{Session, openingKey}
 use Rattle.protocol.specs.Transform.{Primitives, plaintextUnder}
-use Rattle.protocol.specs.Calls.{openingUnder, Lent, keyTests, messageTests, headerTests, recordTests, textTests, openTests, plaintext, tests}
+use Rattle.protocol.specs.Calls.{sentBy, openingUnder, Lent, keyTests, messageTests, headerTests, recordTests, textTests, openTests, plaintext, tests}
 use Rattle.protocol.specs.Suite.{suite, ciphers}
 use Rattle.protocol.proofs.Judging.{line}
 use Rattle.demands.specs.Lines.{None, no-line}
@@ -178,7 +178,7 @@ module _ (c : Connection) (key : Bytes) (id : ℕ) (w : Lent) (n : ℕ) where
   abbrev underLines : List Test
   underLines = (tests suite (openingUnder c key id) w) .before
 
-  pub under-key-says : None underLines → Walked (Option·getD under []) (record { id = id }) n → OpensUnderKey c key id m n
+  pub under-key-says : None underLines → Walked (Option·getD under []) (sentBy (other (c .role)) id) n → OpensUnderKey c key id m n
   unfolding tests
   under-key-says passed walked =
       let at = line underLines (none-applies underLines passed) in
@@ -205,7 +205,7 @@ module _ (c : Connection) (m : Bytes) (s : Session) (n : ℕ) where
   abbrev recordLines : List Test
   recordLines = (openTests suite c m s) .before
 
-  pub record-says : None recordLines → Walked (Option·getD (plaintext suite c m s) []) (record { id = sessionIdOf m }) n → OpensWithRecord c m s n
+  pub record-says : None recordLines → Walked (Option·getD (plaintext suite c m s) []) (sentBy (other (c .role)) (sessionIdOf m)) n → OpensWithRecord c m s n
   unfolding openTests
   record-says passed walked =
       let at = line recordLines (none-applies recordLines passed) in

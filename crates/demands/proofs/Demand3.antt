@@ -52,7 +52,7 @@ module _ (P : Primitives) (sound : Sound P) (e : Ends) (h : Premises P e) where
 
   -- however m was sealed, it was under the session's key at that end
   sealed-as : (r : Role) (m sealed : Bytes) (n : ℕ) → Seals P e r m sealed n
-      → SealedAs P (e .cipher) (sealingKey r ((record-at r) .keys)) (e .id) m sealed n
+      → SealedAs P r (e .cipher) (sealingKey r ((record-at r) .keys)) (e .id) m sealed n
   sealed-as r _ _ n (by-call w w-in a) =
       rw (← sealing-key r (recordOf (e .id) (w .table)) (record-at r) (kept-at r _ w-in)) (seal-as P (endConnection e r) (e .id) w n a)
 
@@ -64,7 +64,7 @@ module _ (P : Primitives) (sound : Sound P) (e : Ends) (h : Premises P e) where
       let k = kept-at (other r) _ (lent .called) in
       let d = endConnection e (other r) in
       let key = sealingKey r ((record-at r) .keys) in
-      opens P sound d key (e .id) m w n (h .id-fits) (rw (lent .copied) (sealed-as r m sealed n s)) (encrypting r m sealed n s) refl
+      opens P sound d r key (e .id) m w n (other-other r) (h .id-fits) (rw (lent .copied) (sealed-as r m sealed n s)) (encrypting r m sealed n s) refl
       (ap (λ (x : Held). x .used) k)
       (ap (λ (x : Held). x .guest || x .anonymous) k)
       (ap (λ (q : Role). sealingKey q ((recordOf (e .id) (w .table)) .keys)) (other-other r)

@@ -1,10 +1,10 @@
--- Demand 3 speaks of something. A client and a server add a session; the client's seal answers 0, the server is lent the sealed bytes.
--- Over any primitives the premises hold and the seal is done, by computation; at the suite the server opens the message, by demand 3;
--- with primitives that do no work (to compute AES here would take too long) that is computed too.
+-- Demand 3 speaks of something. A client and a server add a session; the client seals a request, the server a break notice, and each is
+-- lent what the other sealed. Over any primitives the premises hold and both seals are done, by computation; at the suite each end opens
+-- what it is lent, by demand 3; with primitives that do no work (to compute AES here would take too long) that is computed too.
 -- Assumes nothing.
 use mathlib.Core.Path.{_≡_, refl, sym, ap, _∙_}
 use mathlib.Core.Logic.{_≢_, _⊎_, inl, inr}
-use mathlib.Core.List.{List, [], _∷_, _++_, List·Memᴰ·head, List·Memᴰ·cases-cons}
+use mathlib.Core.List.{List, [], _∷_, _++_, List·Memᴰ·head, List·Memᴰ·tail, List·Memᴰ·cases-cons}
 use mathlib.Core.Option.{some}
 use Prim.Native.Nat.{ℕ}
 use native.Mathlib.Omega.{arith}
@@ -14,7 +14,7 @@ use Rattle.octets.specs.Numbers.{littleEndian, toLittleEndian}
 use Rattle.octets.specs.Same.{sameBytes}
 use Rattle.protocol.specs.Bytes.{Bytes}
 use Rattle.protocol.specs.Answer.{done}
-use Rattle.protocol.specs.Connection.{Role, client, server}
+use Rattle.protocol.specs.Connection.{Role, client, server, other}
 use Rattle.protocol.specs.TransformHeader.{inner, nonceOf, authenticated}
 use Rattle.protocol.specs.Compound.{walk}
 use Rattle.protocol.specs.Preauth.{negotiateMessage}
@@ -24,14 +24,16 @@ use Rattle.protocol.specs.Calls.{Call, folding, adding, removing}
 use Rattle.protocol.specs.Calls.{Lent, onlyMessage, onlyTable, messageAndTable, sealTests, openTests, tests, effect, answer, left}
 use Rattle.protocol.specs.Suite.{suite}
 use Rattle.protocol.specs.PLines.{header}
+use Rattle.protocol.specs.BreakNotices.{notice}
 use Rattle.demands.specs.Chains.{ChainCalls, Among}
-use Rattle.demands.specs.Steps.{Step, tableLeft}
+use Rattle.demands.specs.Steps.{Step, onTable, tableLeft}
 use Rattle.demands.specs.Demand3.{Ends, endSeals, endOpens, sessionAdded, addedAt, Premises, Seals, by-call, LentToOpen}
 use Rattle.demands.proofs.Demand3.{demand3}
 
--- room for the header, then one inner header of session 5
-pub message : Bytes
-message = replicate 52 0 ++ header 0 0 5
+-- what each end sends: room for the header, then one inner header, of session 5 or a break notice
+pub messageOf : Role → Bytes
+messageOf client = replicate 52 0 ++ header 0 0 5
+messageOf server = replicate 52 0 ++ notice 0 0
 
 -- the client hands an empty message to its connection's chain, which is refused with 23 and changes nothing
 abbrev callsInto : Role → ChainCalls
@@ -52,13 +54,20 @@ endsWith steps =
 abbrev before : Ends
 before = endsWith (λ r. [])
 
--- a list of one step that is no removal
-no-removal : (c : Call) (w : Lent) (i : ℕ) → c ≢ removing i → (s : Step) → Among s (record { call = c; lent = w } ∷ []) → s .call ≢ removing i
-no-removal c w i h s among = go (List·Memᴰ·cases-cons among)
+-- a list of two steps that are no removals
+no-removal : (a b : Step) (i : ℕ) → a .call ≢ removing i → b .call ≢ removing i → (s : Step) → Among s (a ∷ b ∷ []) → s .call ≢ removing i
+no-removal a b i not-a not-b s among = first (List·Memᴰ·cases-cons among)
   where
-    go : (s ≡ record { call = c; lent = w }) ⊎ Among s [] → s .call ≢ removing i
-    go (inl e) = λ q. h (sym (ap (λ (x : Step). x .call) e) ∙ q)
-    go (inr n) = elim n [ ]
+    is : (x : Step) → x .call ≢ removing i → s ≡ x → s .call ≢ removing i
+    is x not-x e = λ q. not-x (sym (ap (λ (y : Step). y .call) e) ∙ q)
+
+    second : (s ≡ b) ⊎ Among s [] → s .call ≢ removing i
+    second (inl e) = is b not-b e
+    second (inr n) = elim n [ ]
+
+    first : (s ≡ a) ⊎ Among s (b ∷ []) → s .call ≢ removing i
+    first (inl e) = is a not-a e
+    first (inr later) = second (List·Memᴰ·cases-cons later)
 
 seal-removes-nothing : (e : Ends) (r : Role) (i : ℕ) → endSeals e r ≢ removing i
 seal-removes-nothing e r i q = let z : _≡_ {A = ℕ} 0 1 = cc in omega arith
@@ -71,20 +80,24 @@ module _ (P : Primitives) where
   abbrev tableAt : Role → List Session
   tableAt r = tableLeft P (addedAt P before r)
 
-  -- what the client sends
-  pub sealed : Bytes
-  sealed = (left P (endSeals before client) (messageAndTable message (tableAt client))) .message
+  abbrev toSeal : Role → Lent
+  toSeal r = messageAndTable (messageOf r) (tableAt r)
 
-  abbrev stepsOf : Role → List Step
-  stepsOf client = record { call = endSeals before client; lent = onlyMessage message } ∷ []
-  stepsOf server = record { call = endOpens before server; lent = onlyMessage sealed } ∷ []
+  -- what an end sends
+  pub sealed : Role → Bytes
+  sealed r = (left P (endSeals before r) (toSeal r)) .message
+
+  abbrev sealStep : Role → Step
+  sealStep r = record { call = endSeals before r; lent = onlyMessage (messageOf r) }
+
+  abbrev openStep : Role → Step
+  openStep r = record { call = endOpens before r; lent = onlyMessage (sealed (other r)) }
 
   abbrev ends : Ends
-  ends = endsWith stepsOf
+  ends = endsWith (λ r. sealStep r ∷ openStep r ∷ [])
 
-  kept : (r : Role) (s : Step) → Among s (stepsOf r) → s .call ≢ removing 5
-  kept client = no-removal (endSeals before client) (onlyMessage message) 5 (seal-removes-nothing before client 5)
-  kept server = no-removal (endOpens before server) (onlyMessage sealed) 5 (open-removes-nothing before server 5)
+  kept : (r : Role) (s : Step) → Among s (ends .steps r) → s .call ≢ removing 5
+  kept r = no-removal (sealStep r) (openStep r) 5 (seal-removes-nothing before r 5) (open-removes-nothing before r 5)
 
   success : (r : Role) → answer P (adding (sessionAdded P before r)) (onlyTable (freeRecord ∷ [])) ≡ done 0
   unfolding tests
@@ -94,24 +107,38 @@ module _ (P : Primitives) where
   premises : Premises P ends
   premises = record { same-messages = refl; same-key = refl; id-fits = lit< tt; added-with-success = success; kept = kept }
 
-  seal-done : answer P (endSeals before client) (messageAndTable message (tableAt client)) ≡ done 1
-  unfolding message tests effect sealTests walk littleEndian toLittleEndian sameBytes
-  seal-done = refl
+  seal-done : (r : Role) → answer P (endSeals before r) (toSeal r) ≡ done 1
+  unfolding messageOf tests effect sealTests walk littleEndian toLittleEndian sameBytes
+  seal-done client = refl
+  seal-done server = refl
 
-  seals : Seals P ends client message sealed 1
+  seals : (r : Role) → Seals P ends r (messageOf r) (sealed r) 1
   unfolding sealed
-  seals = by-call (messageAndTable message (tableAt client)) (List·Memᴰ·head refl) seal-done
+  seals r = by-call (toSeal r) (List·Memᴰ·head refl) (seal-done r)
 
-  abbrev received : Lent
-  received = messageAndTable sealed (tableAt server)
+  -- what an end is lent to open, after its own seal
+  abbrev received : Role → Lent
+  received r = messageAndTable (sealed (other r)) (tableLeft P (onTable (tableAt r) (sealStep r)))
 
-  lent-to-open : LentToOpen P ends server sealed received
-  lent-to-open = record { called = List·Memᴰ·head refl; copied = refl }
+  lent-to-open : (r : Role) → LentToOpen P ends r (sealed (other r)) (received r)
+  lent-to-open r = record { called = List·Memᴰ·tail (List·Memᴰ·head refl); copied = refl }
+
+-- the end opens what the other sealed
+abbrev Opened : Primitives → Role → Type 0
+Opened P r =
+    (answer P (endOpens before r) (received P r) ≡ done 1)
+    × (inner ((left P (endOpens before r) (received P r)) .message) ≡ inner (messageOf (other r)))
 
 -- at the suite: AES-128-GCM, SHA-512, HMAC-SHA-256
-pub goes-across : (answer suite (endOpens before server) (received suite) ≡ done 1)
-    × (inner ((left suite (endOpens before server) (received suite)) .message) ≡ inner message)
-goes-across = demand3 .sessions (ends suite) (premises suite) client message (sealed suite) 1 (seals suite) (received suite) (lent-to-open suite)
+pub request-goes-across : Opened suite server
+request-goes-across =
+    demand3 .sessions (ends suite) (premises suite) client (messageOf client) (sealed suite client) 1 (seals suite client) (received suite server)
+    (lent-to-open suite server)
+
+pub break-notice-goes-across : Opened suite client
+break-notice-goes-across =
+    demand3 .sessions (ends suite) (premises suite) server (messageOf server) (sealed suite server) 1 (seals suite server) (received suite client)
+    (lent-to-open suite client)
 
 -- ---- computed
 
@@ -124,10 +151,12 @@ idle =
       ciphers = record { encrypt = λ c k n a p. p; tag = λ c k n a p. replicate 16 0; decrypt = λ c k n a t b. some b };
     }
 
-opens-idle : answer idle (endOpens before server) (received idle) ≡ done 1
-unfolding sealed message tests effect sealTests openTests walk sealedUnder plaintextUnder authenticated nonceOf littleEndian toLittleEndian sameBytes
-opens-idle = refl
+opens-idle : (r : Role) → answer idle (endOpens before r) (received idle r) ≡ done 1
+unfolding sealed messageOf tests effect sealTests openTests walk sealedUnder plaintextUnder authenticated nonceOf littleEndian toLittleEndian sameBytes
+opens-idle client = refl
+opens-idle server = refl
 
-reads-idle : inner ((left idle (endOpens before server) (received idle)) .message) ≡ header 0 0 5
-unfolding sealed message tests effect sealTests openTests walk sealedUnder plaintextUnder authenticated nonceOf littleEndian toLittleEndian sameBytes
-reads-idle = refl
+reads-idle : (r : Role) → inner ((left idle (endOpens before r) (received idle r)) .message) ≡ inner (messageOf (other r))
+unfolding sealed messageOf tests effect sealTests openTests walk sealedUnder plaintextUnder authenticated nonceOf littleEndian toLittleEndian sameBytes
+reads-idle client = refl
+reads-idle server = refl

@@ -11,11 +11,11 @@ use lib.Seq.{drop-at, length-take-le}
 use borrow.Author.Tests.{leb-false, ltb-false, not-false}
 use Rattle.protocol.specs.Bytes.{Bytes}
 use Rattle.protocol.specs.Answer.{done}
-use Rattle.protocol.specs.Connection.{Connection, encrypts, cipherUsed, longestMessage}
+use Rattle.protocol.specs.Connection.{Role, other, Connection, encrypts, cipherUsed, longestMessage}
 use Rattle.protocol.specs.TransformHeader.{nonceOf, authenticated, inner, originalMessageSize, sessionIdOf, signatureOf, nonceField, authenticatedOf}
 use Rattle.protocol.specs.SessionTable.{Session, sealingKey, openingKey, recordOf}
 use Rattle.protocol.specs.Transform.{Primitives, sealedUnder, plaintextUnder, openedTo}
-use Rattle.protocol.specs.Calls.{sealing, opening, Lent, sealTests, openTests, plaintext, tests, effect, answer, left}
+use Rattle.protocol.specs.Calls.{sentBy, sealing, opening, Lent, sealTests, openTests, plaintext, tests, effect, answer, left}
 use Rattle.protocol.specs.Sound.{Sound}
 use Rattle.protocol.proofs.HeaderLaws.{written, field-start, field-signature, field-authenticated, field-nonce, field-size, field-flags, field-id, field-body}
 use Rattle.protocol.proofs.HeaderLaws.{written-length}
@@ -26,12 +26,12 @@ use Rattle.demands.proofs.Answering.{passes-of, done-of, line-of}
 use Rattle.demands.proofs.CallLaws.{left-done}
 use Rattle.demands.proofs.Checks.{encrypts-says, open-passes}
 
--- m was sealed with success, which left b: by whatever call, under this cipher and key, for this id
-pub record SealedAs (P : Primitives) (cipher : ℕ) (key : Bytes) (id : ℕ) (m b : Bytes) (n : ℕ) : Type 0 where
+-- m was sealed with success by the sender, which left b: by whatever call, under this cipher and key, for this id
+pub record SealedAs (P : Primitives) (sender : Role) (cipher : ℕ) (key : Bytes) (id : ℕ) (m b : Bytes) (n : ℕ) : Type 0 where
   pub counter : ℕ
   pub long : 52 < length m
   pub short : length (inner m) ≤ longestMessage
-  pub walked : Walked (inner m) (record { id = id }) n
+  pub walked : Walked (inner m) (sentBy sender id) n
   pub bytes : b ≡ sealedUnder (P .ciphers) cipher key counter id (inner m)
 
 -- ---- a seal of the table
@@ -42,7 +42,7 @@ module _ (P : Primitives) (c : Connection) (id : ℕ) (w : Lent) (n : ℕ) (e : 
   unfolding tests sealTests
   seal-on = not-false (encrypts c) (line-of (tests P (sealing c id) w) n e 1)
 
-  pub seal-as : SealedAs P (cipherUsed c) (sealingKey (c .role) ((recordOf id (w .table)) .keys)) id (w .message) ((left P (sealing c id) w) .message) n
+  pub seal-as : SealedAs P (c .role) (cipherUsed c) (sealingKey (c .role) ((recordOf id (w .table)) .keys)) id (w .message) ((left P (sealing c id) w) .message) n
   unfolding tests sealTests effect
   seal-as =
       let at = line-of (tests P (sealing c id) w) n e in
@@ -76,10 +76,10 @@ record Finds (P : Primitives) (d : Connection) (id : ℕ) (p b : Bytes) (s : Ses
   text : plaintext P d b s ≡ some p
 
 -- d opens under the record s, with the key that m was sealed with
-finds : (P : Primitives) (sound : Sound P) (d : Connection) (key : Bytes) (id : ℕ) (m b : Bytes) (s : Session) (n : ℕ)
-    → id < 2 ^ 64 → SealedAs P (cipherUsed d) key id m b n → encrypts d ≡ true → openingKey (d .role) (s .keys) ≡ key → Finds P d id (inner m) b s
+finds : (P : Primitives) (sound : Sound P) (d : Connection) (sender : Role) (key : Bytes) (id : ℕ) (m b : Bytes) (s : Session) (n : ℕ)
+    → id < 2 ^ 64 → SealedAs P sender (cipherUsed d) key id m b n → encrypts d ≡ true → openingKey (d .role) (s .keys) ≡ key → Finds P d id (inner m) b s
 unfolding sealedUnder
-finds P sound d key id m b s n fits says on opening-key = rw (says .bytes) found
+finds P sound d sender key id m b s n fits says on opening-key = rw (says .bytes) found
   where
     p : Bytes
     p = inner m
@@ -133,13 +133,13 @@ finds P sound d key id m b s n fits says on opening-key = rw (says .bytes) found
         }
 
 -- One seal and one opening, which is lent what the seal left
-pub opens : (P : Primitives) (sound : Sound P) (d : Connection) (key : Bytes) (id : ℕ) (m : Bytes) (w : Lent) (n : ℕ)
-    → id < 2 ^ 64 → SealedAs P (cipherUsed d) key id m (w .message) n → encrypts d ≡ true → d .constrained ≡ false
+pub opens : (P : Primitives) (sound : Sound P) (d : Connection) (sender : Role) (key : Bytes) (id : ℕ) (m : Bytes) (w : Lent) (n : ℕ)
+    → other (d .role) ≡ sender → id < 2 ^ 64 → SealedAs P sender (cipherUsed d) key id m (w .message) n → encrypts d ≡ true → d .constrained ≡ false
     → let s = recordOf id (w .table) in
     s .used ≡ true → (s .guest || s .anonymous) ≡ false → openingKey (d .role) (s .keys) ≡ key
     → (answer P (opening d) w ≡ done n) × (inner ((left P (opening d) w) .message) ≡ inner m)
 unfolding tests openTests effect
-opens P sound d key id m w n fits says on free known plain opening-key =
+opens P sound d sender key id m w n from fits says on free known plain opening-key =
     (answered, ap (λ (x : Lent). inner (x .message)) (left-done P (opening d) w n answered) ∙ opened-inner b (inner m) _ text (f .checks .long))
   where
     b : Bytes
@@ -149,7 +149,7 @@ opens P sound d key id m w n fits says on free known plain opening-key =
     s = recordOf id (w .table)
 
     f : Finds P d id (inner m) b s
-    f = finds P sound d key id m b s n fits says on opening-key
+    f = finds P sound d sender key id m b s n fits says on opening-key
 
     -- the record that the header names
     taken : recordOf (sessionIdOf b) (w .table) ≡ s
@@ -161,8 +161,8 @@ opens P sound d key id m w n fits says on free known plain opening-key =
     passed : None ((openTests P d b (recordOf (sessionIdOf b) (w .table))) .before)
     passed = rw taken (open-passes P d b s (inner m) (f .checks) known free plain (f .text) (f .size))
 
-    visited : Walked (Option·getD (plaintext P d b (recordOf (sessionIdOf b) (w .table))) []) (record { id = sessionIdOf b }) n
-    visited = rw (text, f .named) (says .walked)
+    visited : Walked (Option·getD (plaintext P d b (recordOf (sessionIdOf b) (w .table))) []) (sentBy (other (d .role)) (sessionIdOf b)) n
+    visited = rw (text, f .named, from) (says .walked)
 
     answered : answer P (opening d) w ≡ done n
     answered = done-of (tests P (opening d) w) n (record { lines = passed; visits = visited; later-lines = no-line })

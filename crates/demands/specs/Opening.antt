@@ -8,9 +8,10 @@ use mathlib.Core.List.{[], _∷_}
 use Prim.Native.Nat.{ℕ, _≤_, _<_}
 use lib.ListN.{length, take}
 use Rattle.protocol.specs.Bytes.{Bytes}
-use Rattle.protocol.specs.Connection.{Connection, cipherUsed}
+use Rattle.protocol.specs.Connection.{other, Connection, cipherUsed}
 use Rattle.protocol.specs.TransformHeader.{inner, signatureOf, nonceField, authenticatedOf, originalMessageSize, flagsOf, sessionIdOf}
 use Rattle.protocol.specs.SessionTable.{Session, openingKey}
+use Rattle.protocol.specs.Calls.{sentBy}
 use Rattle.protocol.specs.Suite.{ciphers}
 use Rattle.demands.specs.Walk.{Walked}
 
@@ -53,7 +54,7 @@ pub record OpensUnderKey (c : Connection) (key : Bytes) (id : ℕ) (m : Bytes) (
   -- not 9, 10
   pub carried : Carries (cipherUsed c) key m text
   -- not 11 to 16
-  pub walked : Walked text (record { id = id }) n
+  pub walked : Walked text (sentBy (other (c .role)) id) n
 
 -- with the table; s is the record that lookup takes
 pub record OpensWithRecord (c : Connection) (m : Bytes) (s : Session) (n : ℕ) : Type 0 where
@@ -70,4 +71,4 @@ pub record OpensWithRecord (c : Connection) (m : Bytes) (s : Session) (n : ℕ) 
   -- not 9, 10
   pub carried : Carries (cipherUsed c) (openingKey (c .role) (s .keys)) m text
   -- not 11 to 16
-  pub walked : Walked text (record { id = sessionIdOf m }) n
+  pub walked : Walked text (sentBy (other (c .role)) (sessionIdOf m)) n

@@ -1,5 +1,5 @@
--- "Under one given key, 7 and 8 do not arise" (RULES 2): such a call looks neither at the role nor at
--- the constraint of its connection, and it has no record.
+-- "Under one given key, 7 and 8 do not arise" (RULES 2): such a call does not look at the constraint
+-- of its connection, and it has no record.
 -- Of the suite.
 -- Assumes nothing.
 use mathlib.Core.Path.{_≡_}
@@ -11,6 +11,7 @@ use Rattle.protocol.specs.Suite.{suite}
 
 -- the connections agree in all else
 pub record EncryptAlike (c d : Connection) : Type 0 where
+  pub same-role : c .role ≡ d .role
   pub same-dialect : c .dialect ≡ d .dialect
   pub same-encryption : c .encryption ≡ d .encryption
   pub same-cipher : c .cipher ≡ d .cipher

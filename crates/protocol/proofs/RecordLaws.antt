@@ -10,14 +10,14 @@ use lib.Dec.{eqb}
 use lib.ListN.{length}
 use Rattle.protocol.specs.Bytes.{Bytes}
 use Rattle.protocol.specs.Answer.{Answer, Test, judge, judgeAfter}
-use Rattle.protocol.specs.Connection.{Connection, cipherUsed}
+use Rattle.protocol.specs.Connection.{other, Connection, cipherUsed}
 use Rattle.protocol.specs.TransformHeader.{inner, sessionIdOf, headerOf}
 use Rattle.protocol.specs.Compound.{walk}
 use Rattle.protocol.specs.Refusals.{otherSession, counterUsedUp}
 use Rattle.protocol.specs.SessionTable.{Session, sealingKey, openingKey}
 use Rattle.protocol.specs.Transform.{Primitives, plaintextUnder}
 use Rattle.protocol.specs.Calls.{sealingUnder, openingUnder, onlyMessage, messageAndCounter, keyTests, messageTests, headerTests, recordTests}
-use Rattle.protocol.specs.Calls.{textTests, sealTests, openTests, verdict, tests, answer}
+use Rattle.protocol.specs.Calls.{sentBy, textTests, sealTests, openTests, verdict, tests, answer}
 use Rattle.protocol.proofs.Judging.{judge-passed, judge-append}
 
 module _ (P : Primitives) (c : Connection) (s : Session) (known : s .used ≡ true) (free : c .constrained ≡ false)
@@ -41,7 +41,7 @@ module _ (P : Primitives) (c : Connection) (s : Session) (known : s .used ≡ tr
       key = sealingKey (c .role) (s .keys)
 
       after : Answer
-      after = judgeAfter (walk (inner m) (record { id = id })) (counterUsedUp (s .counter) ∷ [])
+      after = judgeAfter (walk (inner m) (sentBy (c .role) id)) (counterUsedUp (s .counter) ∷ [])
 
   -- an opening with the table is an opening under the record's key for the id that the header names
   pub open-by-key : (m : Bytes) → length (openingKey (c .role) (s .keys)) ≡ 16
@@ -72,4 +72,4 @@ module _ (P : Primitives) (c : Connection) (s : Session) (known : s .used ≡ tr
       last = textTests m text
 
       w : Answer
-      w = judgeAfter (walk (Option·getD text []) (record { id = sessionIdOf m })) []
+      w = judgeAfter (walk (Option·getD text []) (sentBy (other (c .role)) (sessionIdOf m))) []

@@ -9,7 +9,7 @@ use lib.Dec.{eqb}
 use lib.ListN.{length}
 use Rattle.protocol.specs.Bytes.{Bytes}
 use Rattle.protocol.specs.Answer.{Answer, done, whenDone, Test, judge, judgeAfter}
-use Rattle.protocol.specs.Connection.{Connection, cipherUsed}
+use Rattle.protocol.specs.Connection.{Role, other, isServer, Connection, cipherUsed}
 use Rattle.protocol.specs.TransformHeader.{inner, sessionIdOf, TransformHeader, headerOf}
 use Rattle.protocol.specs.InnerHeader.{Envelope}
 use Rattle.protocol.specs.Compound.{walk}
@@ -109,6 +109,10 @@ verdict t = judge (t .before) (judgeAfter (walkOver (t .walked)) (t .later))
 abbrev pub lines : List Test → Tests
 lines ts = record { before = ts; walked = carries 0; later = [] }
 
+-- a message for the session id that this end sends. "At a client opening, and at a server sealing", it comes from the server
+abbrev pub sentBy : Role → ℕ → Envelope
+sentBy r id = record { id = id; fromServer = isServer r }
+
 -- ---- parts that several calls share
 
 -- 40: a cipher or signing key, a chain value
@@ -160,7 +164,7 @@ addTests a taken room =
 module _ (P : Primitives) (c : Connection) (m : Bytes) (s : Session) where
   -- "sealing 1, 2, 3, 6, 7, 8, 11 to 16, 17"
   unfoldable pub sealTests : ℕ → Tests
-  sealTests id = record { before = messageTests c m ++ recordTests c s; walked = over (inner m) (record { id = id }); later = counterUsedUp (s .counter) ∷ [] }
+  sealTests id = record { before = messageTests c m ++ recordTests c s; walked = over (inner m) (sentBy (c .role) id); later = counterUsedUp (s .counter) ∷ [] }
 
   abbrev pub sealedWith : ℕ → Bytes
   sealedWith id = sealedUnder (P .ciphers) (cipherUsed c) (sealingKey (c .role) (s .keys)) (s .counter) id (inner m)
@@ -173,7 +177,7 @@ module _ (P : Primitives) (c : Connection) (m : Bytes) (s : Session) where
   openTests =
       record {
         before = messageTests c m ++ (headerTests (headerOf m) ++ (recordTests c s ++ textTests m plaintext));
-        walked = over (Option·getD plaintext []) (record { id = sessionIdOf m });
+        walked = over (Option·getD plaintext []) (sentBy (other (c .role)) (sessionIdOf m));
         later = [];
       }
 
@@ -189,7 +193,7 @@ module _ (P : Primitives) where
   tests (sealingUnder c key id) w =
       record {
         before = keyTests key ++ messageTests c (w .message);
-        walked = over (inner (w .message)) (record { id = id });
+        walked = over (inner (w .message)) (sentBy (c .role) id);
         later = counterUsedUp (w .counter) ∷ [];
       }
   tests (openingUnder c key id) w =
@@ -197,7 +201,7 @@ module _ (P : Primitives) where
       let text = plaintextUnder (P .ciphers) (cipherUsed c) key m in
       record {
         before = keyTests key ++ (messageTests c m ++ (headerTests (headerOf m) ++ (otherSession (eqb (sessionIdOf m) id) ∷ textTests m text)));
-        walked = over (Option·getD text []) (record { id = id });
+        walked = over (Option·getD text []) (sentBy (other (c .role)) id);
         later = [];
       }
   tests (signingUnder key) w = lines (signTests key (w .message))

@@ -16,7 +16,7 @@ abbrev pub firstHeaderTests : Bytes → Envelope → List Test
 firstHeaderTests m e = innerTooShort m ∷ notHeader m 0 ∷ firstRelated m ∷ innerSession true m e 0 ∷ []
 
 -- of the header d bytes after the one at p: "15 if d < 64 or p + d + 64 is more than the length, then 16 if d is not a multiple of 8,
--- then at the new header 12, then 14 if it is not related and its id differs"
+-- then at the new header 12, then 14 if it is not related and its id differs" and it is no break notice from the server
 abbrev pub nextHeaderTests : Bytes → Envelope → ℕ → ℕ → List Test
 nextHeaderTests m e p d =
     nextOutside m p d

@@ -1,7 +1,7 @@
 -- What a connection agreed on: RULES 1, 6 and its numbers 1, 3, 7 and 17. Every call takes it whole;
--- a call under one given key looks neither at the role nor at the constraint.
+-- a call under one given key does not look at the constraint.
 -- Assumes nothing.
-use mathlib.Core.Bool.{Bool, cond, not, _&&_, _||_}
+use mathlib.Core.Bool.{Bool, true, false, cond, not, _&&_, _||_}
 use Prim.Native.Nat.{ℕ}
 use lib.Dec.{eqb}
 
@@ -11,6 +11,10 @@ pub data Role : Type 0 where
 abbrev pub other : Role → Role
 other client = server
 other server = client
+
+abbrev pub isServer : Role → Bool
+isServer client = false
+isServer server = true
 
 pub record Connection : Type 0 where
   pub role : Role

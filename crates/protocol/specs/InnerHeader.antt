@@ -1,6 +1,6 @@
 -- Fields of the inner header at place p of the message m: RULES 9; MS-SMB2 2.2.1.2.
 -- Assumes nothing.
-use mathlib.Core.Bool.{Bool}
+use mathlib.Core.Bool.{Bool, _&&_, _||_}
 use mathlib.Core.List.{[], _∷_}
 use Prim.Native.Nat.{ℕ, _+_, _/_, _%_}
 use lib.Dec.{eqb}
@@ -24,6 +24,23 @@ nextCommand m p = numberAt (p + 20) 4 m
 abbrev pub innerSessionId : Bytes → ℕ → ℕ
 innerSessionId m p = numberAt (p + 40) 8 m
 
--- what is known of an inner message from outside: the id of the session that it is sealed for
+-- "Command (bytes 12..14)"
+abbrev pub command : Bytes → ℕ → ℕ
+command m p = numberAt (p + 12) 2 m
+
+-- "MessageId (24..32)"
+abbrev pub messageId : Bytes → ℕ → ℕ
+messageId m p = numberAt (p + 24) 8 m
+
+-- a break notice: "Command 0x0012 .., MessageId .. all ones and SessionId 0" (MS-SMB2 2.2.23)
+abbrev pub isBreakNotice : Bytes → ℕ → Bool
+isBreakNotice m p = eqb (command m p) 0x0012 && eqb (messageId m p) 0xFFFFFFFFFFFFFFFF && eqb (innerSessionId m p) 0
+
+-- what is known of an inner message from outside: the id of the session that it is sealed for, and whether it comes from the server
 pub record Envelope : Type 0 where
   pub id : ℕ
+  pub fromServer : Bool
+
+-- the header at p belongs to the session: it has the session's id, or is a break notice from the server
+abbrev pub belongs : Bytes → Envelope → ℕ → Bool
+belongs m e p = (e .fromServer && isBreakNotice m p) || eqb (innerSessionId m p) (e .id)

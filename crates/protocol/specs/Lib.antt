@@ -16,3 +16,4 @@ pub mod Suite
 pub mod Contract
 pub mod Sound
 pub mod PLines
+pub mod BreakNotices

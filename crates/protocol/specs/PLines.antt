@@ -39,21 +39,22 @@ onServer constrained = record { role = server; dialect = 0x0311; encryption = tr
 abbrev pub tableOf : Bool → List Session
 tableOf guest = record { used = true; id = 5; guest = guest; anonymous = false; keys = zeroKeys; counter = 0 } ∷ []
 
-abbrev pub session5 : Envelope
-session5 = record { id = 5 }
+-- sealed for session 5, from the server or from a client
+abbrev pub session5 : Bool → Envelope
+session5 fromServer = record { id = 5; fromServer = fromServer }
 
 pub record PLines : Type 0 where
   pub P1 : answer suite (opening (onServer false)) (messageAndTable (transform 0xFD 0 1) (tableOf false)) ≡ refused 2
   pub P2 : answer suite (opening (onServer false)) (messageAndTable (transform 0xFE 1 1 ++ (0 ∷ [])) (tableOf false)) ≡ refused 4
   pub P3 : answer suite (opening (onServer false)) (messageAndTable (transform 0xFD 1 0 ++ (0 ∷ [])) []) ≡ refused 5
   pub P4 : answer suite (opening (onServer true)) (messageAndTable (transform 0xFD 1 1 ++ (0 ∷ [])) (tableOf true)) ≡ refused 7
-  pub P5 : walk (replicate 63 0) session5 ≡ refused 11
-  pub P6 : walk (header 0 0 5) session5 ≡ done 1
-  pub P7 : walk (header 0 64 5 ++ header 4 0 9) session5 ≡ done 2
-  pub P8 : walk (header 0 65 5 ++ header 4 0 9) session5 ≡ refused 15
-  pub P9 : walk (header 0 68 5 ++ (replicate 8 0 ++ header 4 0 9)) session5 ≡ refused 16
-  pub P10 : walk (header 0 64 5 ++ replicate 63 0) session5 ≡ refused 15
-  pub P11 : walk (header 0 4294967288 5 ++ header 4 0 9) session5 ≡ refused 15
+  pub P5 : (fromServer : Bool) → walk (replicate 63 0) (session5 fromServer) ≡ refused 11
+  pub P6 : (fromServer : Bool) → walk (header 0 0 5) (session5 fromServer) ≡ done 1
+  pub P7 : (fromServer : Bool) → walk (header 0 64 5 ++ header 4 0 9) (session5 fromServer) ≡ done 2
+  pub P8 : (fromServer : Bool) → walk (header 0 65 5 ++ header 4 0 9) (session5 fromServer) ≡ refused 15
+  pub P9 : (fromServer : Bool) → walk (header 0 68 5 ++ (replicate 8 0 ++ header 4 0 9)) (session5 fromServer) ≡ refused 16
+  pub P10 : (fromServer : Bool) → walk (header 0 64 5 ++ replicate 63 0) (session5 fromServer) ≡ refused 15
+  pub P11 : (fromServer : Bool) → walk (header 0 4294967288 5 ++ header 4 0 9) (session5 fromServer) ≡ refused 15
   pub P12 : (key chain : Bytes) → length chain ≡ 64
       → ((derivedKeys kdf 0x0311 chain key) .clientToServer ≡ take 16 (hmac sha256 key (derivationInput smbC2SCipherKey chain)))
       × (length (derivationInput smbC2SCipherKey chain) ≡ 89)

@@ -12,7 +12,7 @@ use Rattle.protocol.specs.Bytes.{Bytes}
 use Rattle.protocol.specs.Answer.{Test, refuse_when_}
 use Rattle.protocol.specs.Connection.{Connection, knownDialect, encrypts, longestMessage, lastCounter}
 use Rattle.protocol.specs.TransformHeader.{TransformHeader}
-use Rattle.protocol.specs.InnerHeader.{isInnerHeader, isRelated, innerSessionId, Envelope}
+use Rattle.protocol.specs.InnerHeader.{isInnerHeader, isRelated, Envelope, belongs}
 use Rattle.protocol.specs.Preauth.{admitted}
 use Rattle.protocol.specs.Signing.{isSigned, signatureField}
 use Rattle.protocol.specs.SessionTable.{Session}
@@ -69,9 +69,10 @@ notHeader m p = refuse 12 when not (isInnerHeader m p)
 abbrev pub firstRelated : Bytes → Test
 firstRelated m = refuse 13 when isRelated m 0
 
--- "inner SessionId differs from the transform's": of the header at p, where it is compared
+-- "inner SessionId differs from the transform's": of the header at p, where it is compared; a break notice from the server "must not be
+-- tested for 14"
 abbrev pub innerSession : Bool → Bytes → Envelope → ℕ → Test
-innerSession compared m e p = refuse 14 when compared && not (eqb (innerSessionId m p) (e .id))
+innerSession compared m e p = refuse 14 when compared && not (belongs m e p)
 
 -- "next header under 64 bytes away, or not wholly inside": d bytes after the one at p
 abbrev pub nextOutside : Bytes → ℕ → ℕ → Test

@@ -22,9 +22,10 @@ use Rattle.protocol.proofs.BytesLaws.{skip}
 use Rattle.protocol.proofs.CallLaws.{number-lines, lines-done, left-done}
 use Rattle.protocol.proofs.Judging.{positive, positive-first, positive-rest, refuses, passes, judge-passed}
 use Rattle.protocol.proofs.SuiteLaws.{suite-sound}
+use Rattle.connection.specs.Reading.{bitOf}
 use Rattle.session_record.specs.declared.Adding.{Adding}
 use Rattle.session_record.specs.declared.Session.{Session}
-use Rattle.session_record.specs.Reading.{bitOf, stored}
+use Rattle.session_record.specs.Reading.{stored}
 use Rattle.session_record.specs.Adds.{addingOf, recordWith, AddsWith}
 
 -- ---- the four keys, in their order and back

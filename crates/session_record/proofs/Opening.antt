@@ -10,12 +10,12 @@ use lib.Dec.{leb}
 use lib.ListN.{length}
 use Rattle.protocol.specs.Bytes.{Bytes}
 use Rattle.protocol.specs.Answer.{Answer, refused, whenDone, Test, firstElse, firstOf, judge, judgeAfter}
-use Rattle.protocol.specs.Connection.{Connection}
+use Rattle.protocol.specs.Connection.{other, Connection}
 use Rattle.protocol.specs.TransformHeader.{TransformHeader, headerOf, sessionIdOf}
 use Rattle.protocol.specs.Compound.{walk}
 use Rattle.protocol.specs.SessionTable.{Session, openingKey}
 use Rattle.protocol.specs.Transform.{openedTo}
-use Rattle.protocol.specs.Calls.{openingUnder, Lent, onlyMessage, messageTests, headerTests, recordTests, textTests, openTests, plaintext, effect}
+use Rattle.protocol.specs.Calls.{sentBy, openingUnder, Lent, onlyMessage, messageTests, headerTests, recordTests, textTests, openTests, plaintext, effect}
 use Rattle.protocol.specs.Calls.{answer}
 use Rattle.protocol.specs.Contract.{Makes}
 use Rattle.protocol.specs.Suite.{suite}
@@ -37,7 +37,7 @@ module _ (c : Connection) (s : Session) (m : Bytes) where
   last = textTests m (plaintext suite c m s)
 
   abbrev after : Answer
-  after = judgeAfter (walk (Option·getD (plaintext suite c m s) []) (record { id = sessionIdOf m })) []
+  after = judgeAfter (walk (Option·getD (plaintext suite c m s) []) (sentBy (other (c .role)) (sessionIdOf m))) []
 
   -- as the code tests them, a line after the other: what a message that is too short says after 2 counts for nothing
   module _ (h : TransformHeader) (line6 line4 n : ℕ) (eh : h ≡ headerIn m) (e6 : line6 ≡ firstOf (recordTests c s))

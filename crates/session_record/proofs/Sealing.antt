@@ -12,7 +12,7 @@ use Rattle.protocol.specs.TransformHeader.{inner}
 use Rattle.protocol.specs.Compound.{walk}
 use Rattle.protocol.specs.Refusals.{counterUsedUp}
 use Rattle.protocol.specs.SessionTable.{Session, sealingKey}
-use Rattle.protocol.specs.Calls.{sealingUnder, Lent, messageAndCounter, messageTests, recordTests, sealTests, sealedWith, effect, answer}
+use Rattle.protocol.specs.Calls.{sentBy, sealingUnder, Lent, messageAndCounter, messageTests, recordTests, sealTests, sealedWith, effect, answer}
 use Rattle.protocol.specs.Contract.{Makes}
 use Rattle.protocol.specs.Suite.{suite}
 use Rattle.protocol.proofs.AnswerLaws.{when-part}
@@ -25,7 +25,7 @@ module _ (c : Connection) (s : Session) (id : ℕ) (m : Bytes) where
   lines = messageTests c m ++ recordTests c s
 
   abbrev after : Answer
-  after = judgeAfter (walk (inner m) (record { id = id })) (counterUsedUp (s .counter) ∷ [])
+  after = judgeAfter (walk (inner m) (sentBy (c .role) id)) (counterUsedUp (s .counter) ∷ [])
 
   -- as the code tests them, a line after the other
   module _ (line6 n : ℕ) (e6 : line6 ≡ firstOf (recordTests c s)) (e : n ≡ firstElse (messageTests c m) line6) where

@@ -6,7 +6,7 @@ use lib.Dec.{leb, eqb}
 use lib.ListN.{replicate}
 use Rattle.protocol.specs.Connection.{lastCounter}
 use Rattle.protocol.specs.SessionTable as table
-use Rattle.connection.specs.Reading.{flag}
+use Rattle.connection.specs.Reading.{flag, bitOf}
 use Rattle.session_record.specs.declared.Session.{Session}
 
 abbrev pub sessionOf : Session → table.Session
@@ -19,10 +19,6 @@ sessionOf s =
       keys = record { signing = s .signing; application = s .application; clientToServer = s .«client_to_server»; serverToClient = s .«server_to_client» };
       counter = s .counter;
     }
-
--- a flag as the library stores it
-abbrev pub bitOf : Bool → ℕ
-bitOf b = cond b 1 0
 
 -- a record as the library stores it, every byte of it: flags are 0 or 1, and the spare bytes 0
 abbrev pub stored : table.Session → Session

@@ -4,7 +4,7 @@ use crate::Session;
 ghost use mathlib.Core.Path.{_≡_};
 ghost use mathlib.Core.Bool.{cond};
 ghost use Rattle.protocol.specs.SessionTable.{zeroKey};
-ghost use Rattle.session_record.specs.Reading.{bitOf, stored};
+ghost use Rattle.session_record.specs.Reading.{stored};
 ghost use Rattle.session_record.specs.Adds.{recordWith};
 
 // A guest or anonymous record holds zero in the place of a cipher key.
@@ -16,13 +16,6 @@ fn held(bare: bool, key: [u8; 16]) -> [u8; 16]
         return none;
     }
     key
-}
-
-// A flag as the library stores it.
-fn bit(on: bool) -> u8
-    ensures { λ r. ⌜ r ≡ bitOf on ⌝ }
-{
-    if on { 1 } else { 0 }
 }
 
 // The new record, out of the four keys in their order.
@@ -43,8 +36,8 @@ pub fn fresh(a: Adding, keys: [u8; 64]) -> Session
         client_to_server: first,
         server_to_client: second,
         used: 1,
-        guest: bit(a.guest),
-        anonymous: bit(a.anonymous),
+        guest: connection::bit(a.guest),
+        anonymous: connection::bit(a.anonymous),
         spare: spare,
     }
 }

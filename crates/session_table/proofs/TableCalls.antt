@@ -19,7 +19,7 @@ use Rattle.protocol.specs.SessionTable as protocol
 use Rattle.protocol.specs.Transform.{openedTo}
 use Rattle.protocol.specs.Calls.{Call, derivation, folding, sealingUnder, openingUnder, signingUnder, verifyingUnder, adding, removing, stepping, sealing, opening}
 use Rattle.protocol.specs.Calls.{Lent, lines}
-use Rattle.protocol.specs.Calls.{onlyTable, messageAndTable, messageTests, recordTests, addTests, sealTests, sealedWith, openTests, plaintext, verdict}
+use Rattle.protocol.specs.Calls.{sentBy, onlyTable, messageAndTable, messageTests, recordTests, addTests, sealTests, sealedWith, openTests, plaintext, verdict}
 use Rattle.protocol.specs.Calls.{tests, effect, answer, left}
 use Rattle.protocol.specs.Contract.{Makes, Returns}
 use Rattle.protocol.specs.Suite.{suite, kdf}
@@ -27,11 +27,11 @@ use Rattle.protocol.proofs.AnswerLaws.{when-part, when-two}
 use Rattle.protocol.proofs.CallLaws.{makes-when, lines-refused, lines-done, number-lines}
 use Rattle.protocol.proofs.Judging.{judge-done}
 use Rattle.transform_header.proofs.HeaderIn.{header-there}
-use Rattle.connection.specs.Reading.{flag}
+use Rattle.connection.specs.Reading.{flag, bitOf}
 use Rattle.session_record.specs.declared.Session.{Session}
 use Rattle.session_record.specs.declared.Adding.{Adding}
 use Rattle.session_record.specs.declared.Changed.{Changed}
-use Rattle.session_record.specs.Reading.{free, isWanted, sessionOf, bitOf, stored, stepped}
+use Rattle.session_record.specs.Reading.{free, isWanted, sessionOf, stored, stepped}
 use Rattle.session_record.specs.Adds.{addingOf, AddsWith}
 use Rattle.session_record.specs.Contracts.{SealsWith, counterMoves, OpensWith, namedId, removedOf}
 use Rattle.session_table.specs.Place.{first, placeOf, freePlace}
@@ -201,7 +201,7 @@ module _ (c : Connection) (id : ℕ) (m : Bytes) (ys : List Session) where
   not-last : (n : ℕ) → sealed ≡ done n → eqb (record-of .counter) lastCounter ≡ false
   unfolding sealTests
   not-last n e =
-      let walked = walk (inner m) (record { id = id }) in
+      let walked = walk (inner m) (sentBy (c .role) id) in
       go walked (eqb (record-of .counter) lastCounter)
       (judge-done (messageTests c m ++ recordTests c record-of) (judgeAfter walked (counterUsedUp (record-of .counter) ∷ [])) n e .1)
     where

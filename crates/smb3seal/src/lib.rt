@@ -43,6 +43,7 @@ pub extern "C" fn smb3seal_fold_response(chain: &mut [u8], message: &[u8], folde
 // Seals the message in place.
 #[no_mangle]
 pub extern "C" fn smb3seal_seal(
+    role: u32,
     dialect: u16,
     encryption: u32,
     cipher: u16,
@@ -52,9 +53,9 @@ pub extern "C" fn smb3seal_seal(
     message: &mut [u8],
     headers: &mut u64,
 ) -> u32
-    ensures { λ r. ⌜ Reports (sealingUnder (underKey dialect encryption cipher) (now (key .entry)) id) (messageAndCounter (now (message .entry)) (now (counter .entry))) r (messageAndCounter (now (message .exit)) (now (counter .exit))) (now (headers .entry)) (now (headers .exit)) ⌝ }
+    ensures { λ r. ⌜ Reports (sealingUnder (underKey role dialect encryption cipher) (now (key .entry)) id) (messageAndCounter (now (message .entry)) (now (counter .entry))) r (messageAndCounter (now (message .exit)) (now (counter .exit))) (now (headers .entry)) (now (headers .exit)) ⌝ }
 {
-    let c = connection::under_key(dialect, encryption, cipher);
+    let c = connection::under_key(role, dialect, encryption, cipher);
     let sealed = transform::seal_under(c, key, *counter, id, message);
     let answer = sealed.answer;
     *counter = sealed.counter;
@@ -64,6 +65,7 @@ pub extern "C" fn smb3seal_seal(
 // Opens the message in place.
 #[no_mangle]
 pub extern "C" fn smb3seal_open(
+    role: u32,
     dialect: u16,
     encryption: u32,
     cipher: u16,
@@ -72,9 +74,9 @@ pub extern "C" fn smb3seal_open(
     message: &mut [u8],
     headers: &mut u64,
 ) -> u32
-    ensures { λ r. ⌜ Reports (openingUnder (underKey dialect encryption cipher) (now (key .entry)) id) (onlyMessage (now (message .entry))) r (onlyMessage (now (message .exit))) (now (headers .entry)) (now (headers .exit)) ⌝ }
+    ensures { λ r. ⌜ Reports (openingUnder (underKey role dialect encryption cipher) (now (key .entry)) id) (onlyMessage (now (message .entry))) r (onlyMessage (now (message .exit))) (now (headers .entry)) (now (headers .exit)) ⌝ }
 {
-    let c = connection::under_key(dialect, encryption, cipher);
+    let c = connection::under_key(role, dialect, encryption, cipher);
     let answer = transform::open_under(c, key, id, message);
     answer::report(answer, headers)
 }

@@ -18,7 +18,8 @@ fn messages(line: &[u8], l: Login, from: Ends) -> Ends {
     let e1 = traffic::client_seals_and_server_opens(l, from);
     let e2 = traffic::server_seals_and_client_opens(l, e1);
     traffic::published_messages_open(line, l, e2);
-    traffic::repeated_reordered_and_lost(l, e2)
+    let e3 = traffic::break_notices(l, e2);
+    traffic::repeated_reordered_and_lost(l, e3)
 }
 
 // What the client's table refuses.

@@ -52,6 +52,13 @@ pub fn compounded(id: u64, number: u8) -> [u8; 180] {
     with_id(m, 156, 0xFFFFFFFFFFFFFFFF)
 }
 
+// A break notice: command 0x0012, a message id of all ones, the session id 0.
+pub fn notice(number: u8) -> [u8; 180] {
+    let mut m = with_id(plain(0, number), 76, 0xFFFFFFFFFFFFFFFF);
+    m[64] = 0x12;
+    m
+}
+
 // The message with a transform header that names the session of the id, sealed by nobody.
 pub fn addressed(from: [u8; 180], id: u64) -> [u8; 180] {
     let mut m = from;

@@ -52,6 +52,31 @@ pub fn server_seals_and_client_opens(l: Login, e: Ends) -> Ends {
     }
 }
 
+// A break notice goes from the server to the client; 14: the client does not send one.
+pub fn break_notices(l: Login, e: Ends) -> Ends {
+    let c = login::client(l);
+    let s = login::server(l);
+    let m = message::notice(15);
+    let client = e.client;
+    let server = e.server;
+    let after = calls::across(
+        b"server seals a break notice",
+        b"client opens it",
+        server,
+        s,
+        client,
+        c,
+        l.id,
+        m,
+    );
+    let sent = calls::seal(b"client seals a break notice", client, c, l.id, m);
+    let t1 = sent.table;
+    Ends {
+        client: t1,
+        server: after,
+    }
+}
+
 fn open_published(what: &[u8], t: Table, c: Connection, message: &mut [u8]) {
     let answer = table_by_value::open_in(t, c, message);
     show::answered(what, answer);

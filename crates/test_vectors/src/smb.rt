@@ -61,6 +61,7 @@ pub fn derive(line: &[u8], count: usize) {
 
 // What sealing and opening are lent besides the message.
 struct Lent {
+    role: u32,
     dialect: u16,
     cipher: u16,
     key: [u8; 16],
@@ -68,14 +69,16 @@ struct Lent {
     next: usize,
 }
 
-// DIALECT CIPHER KEY ID.
+// ROLE DIALECT CIPHER KEY ID.
 fn read_lent(line: &[u8]) -> Lent {
-    let dialect = test_lines::read_number(line, test_lines::after_space(line, 0));
+    let role = test_lines::read_number(line, test_lines::after_space(line, 0));
+    let dialect = test_lines::read_number(line, role.next);
     let cipher = test_lines::read_number(line, dialect.next);
     let mut key = [0u8; 16];
     let k = test_lines::bytes(line, cipher.next, &mut key);
     let id = test_lines::read_number(line, k.next);
     Lent {
+        role: low_16(role.value) as u32,
         dialect: low_16(dialect.value),
         cipher: low_16(cipher.value),
         key: key,
@@ -87,7 +90,16 @@ fn read_lent(line: &[u8]) -> Lent {
 fn open_message(l: Lent, message: &mut [u8]) {
     let key = l.key;
     let mut headers: u64 = 7;
-    let r = smb3seal::smb3seal_open(l.dialect, 1, l.cipher, &key, l.id, message, &mut headers);
+    let r = smb3seal::smb3seal_open(
+        l.role,
+        l.dialect,
+        1,
+        l.cipher,
+        &key,
+        l.id,
+        message,
+        &mut headers,
+    );
     test_lines::show_decimal(r as u64);
     test_lines::space();
     test_lines::show_decimal(headers);
@@ -96,7 +108,7 @@ fn open_message(l: Lent, message: &mut [u8]) {
     test_lines::end_line();
 }
 
-// open DIALECT CIPHER KEY ID MESSAGE: the number, the place for the headers (which held 7), and the message.
+// open ROLE DIALECT CIPHER KEY ID MESSAGE: the number, the place for the headers (which held 7), and the message.
 pub fn open(line: &[u8]) {
     let l = read_lent(line);
     let mut message = [0u8; 1024];
@@ -110,6 +122,7 @@ fn seal_message(l: Lent, c: u64, whole: bool, message: &mut [u8]) {
     let mut counter = c;
     let mut headers: u64 = 7;
     let r = smb3seal::smb3seal_seal(
+        l.role,
         l.dialect,
         1,
         l.cipher,
@@ -131,7 +144,7 @@ fn seal_message(l: Lent, c: u64, whole: bool, message: &mut [u8]) {
     test_lines::end_line();
 }
 
-// seal DIALECT CIPHER KEY ID COUNTER MESSAGE: the number and the counter; where `whole`, also the headers and the message.
+// seal ROLE DIALECT CIPHER KEY ID COUNTER MESSAGE: the number and the counter; where `whole`, also the headers and the message.
 pub fn seal(line: &[u8], whole: bool) {
     let l = read_lent(line);
     let counter = test_lines::read_number(line, l.next);
@@ -150,7 +163,17 @@ fn seal_plain(message: &mut [u8])
     let key = [0u8; 16];
     let mut counter: u64 = 0;
     let mut headers: u64 = 0;
-    let r = smb3seal::smb3seal_seal(0x0311, 1, 2, &key, 5, &mut counter, message, &mut headers);
+    let r = smb3seal::smb3seal_seal(
+        0,
+        0x0311,
+        1,
+        2,
+        &key,
+        5,
+        &mut counter,
+        message,
+        &mut headers,
+    );
     test_lines::show_decimal(r as u64);
     test_lines::end_line();
 }

@@ -13,14 +13,14 @@ use lib.ListN.{length, take, drop}
 use Rattle.octets.specs.Maybe.{isSome}
 use Rattle.protocol.specs.Bytes.{Bytes}
 use Rattle.protocol.specs.Answer.{Answer, refused, isRefused, Test, firstElse, firstOf, judge}
-use Rattle.protocol.specs.Connection.{Connection, cipherUsed}
+use Rattle.protocol.specs.Connection.{other, Connection, cipherUsed}
 use Rattle.protocol.specs.TransformHeader.{TransformHeader, headerOf, inner, sessionIdOf}
 use Rattle.protocol.specs.InnerHeader.{Envelope}
 use Rattle.protocol.specs.Compound.{walk}
 use Rattle.protocol.specs.Refusals.{otherSession, badTag}
 use Rattle.protocol.specs.Ciphers.{cipherOf}
 use Rattle.protocol.specs.Transform.{plaintextUnder, openedTo}
-use Rattle.protocol.specs.Calls.{openingUnder, onlyMessage, keyTests, messageTests, headerTests, textTests, tests, effect, answer}
+use Rattle.protocol.specs.Calls.{sentBy, openingUnder, onlyMessage, keyTests, messageTests, headerTests, textTests, tests, effect, answer}
 use Rattle.protocol.specs.Contract.{Makes}
 use Rattle.protocol.specs.Suite.{suite, ciphers}
 use Rattle.protocol.proofs.AnswerLaws.{when-done, when-refused, when-part, after-nothing}
@@ -133,13 +133,13 @@ module _ (c : Connection) (key : Bytes) (id : ℕ) (m : Bytes) where
           first-passed c key m 0
           (sym (first-of-both (keyTests key ++ messageTests c m) (headerTests (headerOf m) ++ (otherSession (eqb (sessionIdOf m) id) ∷ [])) (sym s ∙ z))) refl
 
-      pub message-opens : (used : ℕ) (m′ : Bytes) (a : Answer) → used ≡ cipherUsed c → OpensMessage used key (record { id = id }) m m′ a
+      pub message-opens : (used : ℕ) (e : Envelope) (m′ : Bytes) (a : Answer) → used ≡ cipherUsed c → e ≡ sentBy (other (c .role)) id → OpensMessage used key e m m′ a
           → Makes (openingUnder c key id) (onlyMessage m) a (onlyMessage m′)
       unfolding tests effect
-      message-opens used m′ a eu o =
-          let o′ : OpensMessage (cipherUsed c) key (record { id = id }) m m′ a = rw eu at o in
+      message-opens used e m′ a eu ee o =
+          let o′ : OpensMessage (cipherUsed c) key (sentBy (other (c .role)) id) m m′ a = rw (eu, ee) at o in
           let text = plaintextUnder ciphers (cipherUsed c) key m in
-          let walked = walk (Option·getD text []) (record { id = id }) in
+          let walked = walk (Option·getD text []) (sentBy (other (c .role)) id) in
           let none = passes linesBefore n refl s z in
           makes-when (openingUnder c key id) (onlyMessage m) a
           (o′ .answer

@@ -17,7 +17,7 @@ use Rattle.protocol.specs.Compound.{walk}
 use Rattle.protocol.specs.Refusals.{counterUsedUp}
 use Rattle.protocol.specs.Ciphers.{cipherOf}
 use Rattle.protocol.specs.Transform.{sealedUnder}
-use Rattle.protocol.specs.Calls.{sealingUnder, messageAndCounter, keyTests, messageTests, tests, effect, answer}
+use Rattle.protocol.specs.Calls.{sentBy, sealingUnder, messageAndCounter, keyTests, messageTests, tests, effect, answer}
 use Rattle.protocol.specs.Contract.{Makes}
 use Rattle.protocol.specs.Suite.{suite, ciphers}
 use Rattle.protocol.proofs.AnswerLaws.{after-done, after-refused}
@@ -78,7 +78,7 @@ module _ (c : Connection) (key : Bytes) (id k : ℕ) (m : Bytes) where
     unfolding tests
     lines-refuse h = sym (refuses (keyTests key ++ messageTests c m) _ n s h)
 
-  module _ (f : First c key m) (a : Answer) (w : a ≡ walk (inner m) (record { id = id })) where
+  module _ (f : First c key m) (a : Answer) (w : a ≡ walk (inner m) (sentBy (c .role) id)) where
     so-far : sealed ≡ judgeAfter a (counterUsedUp k ∷ [])
     unfolding tests
     so-far = judge-passed (keyTests key ++ messageTests c m) _ (f .none) ∙ ap (λ (b : Answer). judgeAfter b (counterUsedUp k ∷ [])) (sym w)
@@ -108,14 +108,14 @@ module _ (c : Connection) (key : Bytes) (id k : ℕ) (m : Bytes) where
     -- no seal is done at the last counter
     pub not-last : k ≡ lastCounter → ⊥
     unfolding tests
-    not-last h = go (walk (inner m) (record { id = id })) refl
+    not-last h = go (walk (inner m) (sentBy (c .role) id)) refl
       where
         last : (b : Answer) → isRefused (judgeAfter b (counterUsedUp k ∷ [])) ≡ true
         last (done j) = rw (eq-eqb k lastCounter h)
         last (refused j) = refl
 
-        go : (b : Answer) → walk (inner m) (record { id = id }) ≡ b → ⊥
-        go b q = true≢false (sym (ap isRefused e ∙ refused-judged (keyTests key ++ messageTests c m) _ (last (walk (inner m) (record { id = id })))) ∙ r)
+        go : (b : Answer) → walk (inner m) (sentBy (c .role) id) ≡ b → ⊥
+        go b q = true≢false (sym (ap isRefused e ∙ refused-judged (keyTests key ++ messageTests c m) _ (last (walk (inner m) (sentBy (c .role) id)))) ∙ r)
 
     pub seals : (used : ℕ) (m′ : Bytes) → used ≡ cipherUsed c → m′ ≡ sealedUnder ciphers used key k id (inner m)
         → Makes (sealingUnder c key id) (messageAndCounter m k) a (messageAndCounter m′ (k + 1))

@@ -1,10 +1,10 @@
 // Sealing and opening in place under one given key (RULES 4; MS-SMB2 3.1.4.3, 3.2.5.1.1 and 3.3.5.2.1).
 mod body;
 mod cipher;
+mod envelope;
 
 use answer::Answer;
 use answer::refuse;
-use compound::Envelope;
 use connection::Connection;
 ghost use mathlib.Core.Path.{_≡_};
 ghost use Rattle.protocol.specs.Calls.{sealingUnder, openingUnder, onlyMessage, messageAndCounter, answer};
@@ -23,6 +23,7 @@ pub struct Sealed {
 pub fn open_under(c: Connection, key: &[u8], id: u64, message: &mut [u8]) -> Answer
     ensures { λ r. ⌜ Makes (openingUnder (connectionOf c) (now (key .entry)) id) (onlyMessage (now (message .entry))) (answerOf r) (onlyMessage (now (message .exit))) ⌝ }
 {
+    let e = envelope::received(c, id);
     let h = transform_header::read_header(message);
     let line6 = refuse(6, !(h.session_id == id), 0);
     let line4 = refusals::header_number(h, line6);
@@ -32,19 +33,20 @@ pub fn open_under(c: Connection, key: &[u8], id: u64, message: &mut [u8]) -> Ans
         return Answer::Refused(first);
     }
     let used = connection::cipher_used(c);
-    body::open_message(used, key, h, Envelope { id: id }, message)
+    body::open_message(used, key, h, e, message)
 }
 
 // 40, 1, 2, 3, 11 to 16, 17: of a seal, all before a byte is written.
 fn seal_answer(c: Connection, key: &[u8], counter: u64, id: u64, message: &[u8]) -> Answer
     ensures { λ r. ⌜ answerOf r ≡ answer suite (sealingUnder (connectionOf c) (now (key .entry)) id) (messageAndCounter (now (message .entry)) counter) ⌝ }
 {
+    let e = envelope::sent(c, id);
     let line1 = refusals::message_number(c, message, 0);
     let first = refusals::key_number(key, line1);
     if first != 0 {
         return Answer::Refused(first);
     }
-    let out = body::walk_inner(message, Envelope { id: id });
+    let out = body::walk_inner(message, e);
     if answer::refused(out) {
         return out;
     }

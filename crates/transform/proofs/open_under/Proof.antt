@@ -12,7 +12,7 @@ returns : tie.Need-returns
 returns c =
     let c5 = c .before .before .before .before .before in
     let c10 = c5 .before .before .before .before .before in
-    let a = c10 .before .args in
+    let a = c10 .before .before .args in
     let said = lines-chained (connectionOf (a .c)) (a .key .now) (a .id) (a .message .now) _ _ _ _ _ (c5 .before .before .read-header .ensures)
     (c5 .refuse .ensures)
     (c .before .before .before .before .header-number .ensures) (c .before .before .message-number .ensures) (c .before .key-number .ensures) in
@@ -22,7 +22,7 @@ open-message-requires : tie.Need-open-message-requires
 open-message-requires c κs =
     let c5 = c .before .before .before .before .before in
     let c10 = c5 .before .before .before .before .before in
-    let a = c10 .before .before .before .args in
+    let a = c10 .before .before .before .before .args in
     let said = lines-chained (connectionOf (a .c)) (a .key .now) (a .id) (a .message .now) _ _ _ _ _
     (c5 .before .before .before .before .read-header .ensures) (c5 .before .before .refuse .ensures)
     (c5 .before .header-number .ensures) (c .before .before .before .before .message-number .ensures) (c .before .before .before .key-number .ensures) in
@@ -39,19 +39,20 @@ returns-2 : tie.Need-returns-2
 returns-2 c =
     let c5 = c .before .before .before .before .before in
     let c10 = c5 .before .before .before .before .before in
-    let c15 = c10 .before .before .before .before .before in
-    let a = c15 .before .args in
+    let e = c10 .before .before .before .before in
+    let a = e .before .before .before .args in
     let said = lines-chained (connectionOf (a .c)) (a .key .now) (a .id) (a .message .now) _ _ _ _ _ (c10 .before .before .read-header .ensures)
     (c10 .refuse .ensures)
     (c5 .before .before .before .before .header-number .ensures) (c5 .before .before .message-number .ensures) (c5 .before .key-number .ensures) in
-    message-opens (connectionOf (a .c)) (a .key .now) (a .id) (a .message .now) _ said (c5 .if1 .left) _ _ _
-    (c .before .before .before .before .cipher-used .ensures)
+    message-opens (connectionOf (a .c)) (a .key .now) (a .id) (a .message .now) _ said (c5 .if1 .left) _ _ _ _
+    (c .before .before .before .before .cipher-used .ensures) (e .received .ensures)
     (c .before .before .open-message .ensures)
 
 pub open-under-spec : {M : Type 1} → statement M
 open-under-spec =
     tie.close
     (tie.spec
+    (λ c κs. search needs)
     (λ c κs. search needs)
     (λ c κs. search needs)
     (λ c κs. search needs)

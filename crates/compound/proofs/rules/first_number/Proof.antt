@@ -24,21 +24,21 @@ returns-3 c =
 
 returns-4 : tie.Need-returns-4
 returns-4 c =
-    let past = c .before .before .before in
+    let past = c .before .before in
     let a = past .before .before .before .before .before .before .args in
     let header = sym (past .before .before .before .begins .ensures) ∙ not-false _ (past .before .before .if2 .left) in
     let unrelated = sym (past .before .is-related .ensures) ∙ past .if3 .left in
     first-14 (a .m .now) (envelopeOf (a .e)) (past .before .before .before .before .if1 .left) header unrelated
-    (λ e. c .if4 .taken (c .before .before .session-id .ensures ∙ e))
+    (sym (c .before .belongs .ensures) ∙ not-true _ (c .if4 .taken))
 
 returns-5 : tie.Need-returns-5
 returns-5 c =
-    let past = c .before .before .before in
+    let past = c .before .before in
     let a = past .before .before .before .before .before .before .args in
     let header = sym (past .before .before .before .begins .ensures) ∙ not-false _ (past .before .before .if2 .left) in
     let unrelated = sym (past .before .is-related .ensures) ∙ past .if3 .left in
     first-none (a .m .now) (envelopeOf (a .e)) (past .before .before .before .before .if1 .left) header unrelated
-    (sym (c .before .before .session-id .ensures) ∙ c .if4 .left)
+    (sym (c .before .belongs .ensures) ∙ not-false _ (c .if4 .left))
 
 pub first-number-spec : {M : Type 1} → statement M
 first-number-spec =

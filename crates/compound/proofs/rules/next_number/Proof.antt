@@ -3,8 +3,6 @@
 use Rattle.compound.proofs.RuleLaws.{next-15-near, next-15-outside, next-16, next-12, next-14, next-none}
 use borrow.Author.Tests.{not-true, not-false}
 use native.Mathlib.Omega.{arith}
-use lib.Dec.{eqb}
-use Prim.Native.Nat.{ℕ}
 use mathlib.Core.Bool.{Bool, not, _&&_}
 use mathlib.Core.Path.{sym, ap₂, _∙_}
 use borrow.Author.Needs.{needs}
@@ -33,21 +31,19 @@ returns-4 c =
 
 returns-5 : tie.Need-returns-5
 returns-5 c =
-    let past = c .before .before .before .before in
+    let past = c .before .before .before in
     let a = past .before .before .before .before .before .before .args in
     let header = sym (past .before .begins .ensures) ∙ not-false _ (past .if4 .left) in
-    let said = sym (ap₂ (λ (r : Bool) (i : ℕ). not r && not (eqb i (a .e .id))) (c .before .before .before .is-related .ensures)
-    (c .before .before .session-id .ensures)) in
+    let said = sym (ap₂ (λ (r b : Bool). not r && not b) (c .before .before .is-related .ensures) (c .before .belongs .ensures)) in
     next-14 (a .m .now) (envelopeOf (a .e)) (a .p) (a .d) (past .before .before .before .before .if1 .left) (omega arith) (past .before .before .if3 .left)
     header (said ∙ c .if5 .taken)
 
 returns-6 : tie.Need-returns-6
 returns-6 c =
-    let past = c .before .before .before .before in
+    let past = c .before .before .before in
     let a = past .before .before .before .before .before .before .args in
     let header = sym (past .before .begins .ensures) ∙ not-false _ (past .if4 .left) in
-    let said = sym (ap₂ (λ (r : Bool) (i : ℕ). not r && not (eqb i (a .e .id))) (c .before .before .before .is-related .ensures)
-    (c .before .before .session-id .ensures)) in
+    let said = sym (ap₂ (λ (r b : Bool). not r && not b) (c .before .before .is-related .ensures) (c .before .belongs .ensures)) in
     next-none (a .m .now) (envelopeOf (a .e)) (a .p) (a .d) (past .before .before .before .before .if1 .left) (omega arith) (past .before .before .if3 .left)
     header (said ∙ c .if5 .left)
 
