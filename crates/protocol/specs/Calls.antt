@@ -17,7 +17,7 @@ use Rattle.protocol.specs.Keys.{sessionKey, derivedKeys, keysInOrder}
 use Rattle.protocol.specs.Preauth.{FoldKind, folded, foldMark}
 use Rattle.protocol.specs.SessionTable.{Session, sealingKey, openingKey, recordOf, changeRecord, removeRecord, hasFree, fillFree, Adding, newRecord}
 use Rattle.protocol.specs.SessionTable.{countUp, counterStep}
-use Rattle.protocol.specs.Refusals.{notEncrypting, tooShort, tooLong, notTransform, badFlags, otherSession, constrained, guest, badTag, badSize}
+use Rattle.protocol.specs.Refusals.{notEncrypting, tooShort, tooLong, notTransform, badFlags, dirtyNonce, otherSession, constrained, guest, badTag, badSize}
 use Rattle.protocol.specs.Refusals.{counterUsedUp, unknownDialect, noKeyMaterial, idZero, idTaken, tableFull, foldLength, badLength}
 use Rattle.protocol.specs.Transform.{Primitives, sealedUnder, plaintextUnder, openedTo}
 
@@ -121,9 +121,9 @@ chainTests v = badLength (eqb (length v) 64) ∷ []
 abbrev pub messageTests : Connection → Bytes → List Test
 messageTests c m = notEncrypting c ∷ tooShort m ∷ tooLong (inner m) ∷ []
 
--- 4 and 5: every opening, on the header
-abbrev pub headerTests : TransformHeader → List Test
-headerTests h = notTransform h ∷ badFlags h ∷ []
+-- 4, 5 and 29, "tested after 5 and before 6": every opening, on the header
+abbrev pub headerTests : Connection → TransformHeader → List Test
+headerTests c h = notTransform h ∷ badFlags h ∷ dirtyNonce c h ∷ []
 
 -- 6 to 8: every sealing and opening with the table, on the record s that lookup took
 abbrev pub recordTests : Connection → Session → List Test
@@ -163,7 +163,7 @@ module _ (P : Primitives) (c : Connection) (m : Bytes) (s : Session) where
   unfoldable pub openTests : Tests
   openTests =
       record {
-        before = messageTests c m ++ (headerTests (headerOf m) ++ (recordTests c s ++ textTests m plaintext));
+        before = messageTests c m ++ (headerTests c (headerOf m) ++ (recordTests c s ++ textTests m plaintext));
         walked = over (Option·getD plaintext []) (sentBy (other (c .role)) (sessionIdOf m));
         later = [];
       }
@@ -187,7 +187,7 @@ module _ (P : Primitives) where
       let m = w .message in
       let text = plaintextUnder (P .ciphers) (cipherUsed c) key m in
       record {
-        before = keyTests key ++ (messageTests c m ++ (headerTests (headerOf m) ++ (otherSession (eqb (sessionIdOf m) id) ∷ textTests m text)));
+        before = keyTests key ++ (messageTests c m ++ (headerTests c (headerOf m) ++ (otherSession (eqb (sessionIdOf m) id) ∷ textTests m text)));
         walked = over (Option·getD text []) (sentBy (other (c .role)) id);
         later = [];
       }
