@@ -38,8 +38,8 @@
  *   key, nor that a table is the one that the call before left.
  * - Each function but smb3seal_table_find returns SMB3SEAL_DONE (0), or the number of the one reason for which it refused. After a
  *   refusal every byte and every number that was lent is as it was: message, table, counter, headers, folded, chain, keys.
- * - Where several reasons apply, SMB3SEAL_BAD_LENGTH comes first and then the lowest number wins, except inside the walk over the
- *   headers of a compounded message, which ends at the first header that breaks a rule.
+ * - Where several reasons apply, SMB3SEAL_BAD_LENGTH comes first and then the lowest number wins; but 29 stands between 5 and 6, and the
+ *   walk over the headers of a compounded message ends at the first header that breaks a rule.
  *
  * smb3seal_text.h has a sentence for each number. docs/SECURITY.md says what the library does not protect against.
  */
@@ -71,9 +71,9 @@ extern "C" {
  */
 
 #define SMB3SEAL_VERSION_MAJOR 0
-#define SMB3SEAL_VERSION_MINOR 4
+#define SMB3SEAL_VERSION_MINOR 5
 #define SMB3SEAL_VERSION_PATCH 0
-#define SMB3SEAL_VERSION "0.4.0"
+#define SMB3SEAL_VERSION "0.5.0"
 
 /* ---- dialects and ciphers, as MS-SMB2 numbers them */
 
@@ -181,6 +181,9 @@ extern "C" {
 #define SMB3SEAL_NOT_SIGNED 24    /* the signed flag (0x00000008 of Flags, bytes 16..20) is missing */
 #define SMB3SEAL_BAD_SIGNATURE 25 /* the signature (bytes 48..64) differs: the message or the key is not the sender's */
 
+/* Opening, with GCM alone. The sender breaks a rule of MS-SMB2: as on 1 to 16, a server disconnects, and a client uses nothing of it. */
+#define SMB3SEAL_DIRTY_NONCE 29 /* under GCM one of the last four bytes of the Nonce field (32..36) is not 0; tested after 5 and before 6 */
+
 /* Lengths that are fixed. A fault of the program, on every dialect. */
 #define SMB3SEAL_BAD_LENGTH 40 /* a key is not 16, a chain value not 64, or the place for the keys not 64 bytes long */
 
@@ -256,7 +259,7 @@ uint32_t smb3seal_seal(uint32_t role, uint16_t dialect, uint32_t encryption, uin
  *
  * A sealed message that arrives twice opens twice. Whether its MessageId was seen before is for the caller to check.
  *
- * Answers 0, or 40, 1 to 6, 9 to 16.
+ * Answers 0, or 40, 1 to 5, 29, 6, 9 to 16.
  */
 uint32_t smb3seal_open(uint32_t role, uint16_t dialect, uint32_t encryption, uint16_t cipher, const uint8_t *key, size_t key_len,
                        uint64_t session_id, uint8_t *message, size_t message_len, uint64_t *headers);
@@ -341,7 +344,7 @@ static inline uint32_t smb3seal_connection_seal(struct smb3seal_connection conne
 /*
  * smb3seal_open with the role, dialect, encryption and cipher of the connection. The key is that of the other direction.
  *
- * Answers 0, or 40, 1 to 6, 9 to 16.
+ * Answers 0, or 40, 1 to 5, 29, 6, 9 to 16.
  */
 static inline uint32_t smb3seal_connection_open(struct smb3seal_connection connection, const uint8_t *key, size_t key_len,
                                                 uint64_t session_id, uint8_t *message, size_t message_len, uint64_t *headers)
@@ -449,7 +452,7 @@ uint32_t smb3seal_table_seal(struct smb3seal_session *table, size_t table_len, s
  * A sealed message that arrives twice opens twice. Whether its MessageId was seen before is for the caller to check, and where a table
  * serves several connections, whether its session belongs to the one by which it came.
  *
- * Answers 0, or 1 to 16.
+ * Answers 0, or 1 to 5, 29, 6 to 16.
  */
 uint32_t smb3seal_table_open(const struct smb3seal_session *table, size_t table_len, struct smb3seal_connection connection,
                              uint8_t *message, size_t message_len, uint64_t *headers);

@@ -143,13 +143,14 @@ static struct compound any_inner(uint8_t *inner, uint64_t id)
 static void damage_transform(const struct call *c)
 {
     uint8_t *at = c->message.at;
-    switch (below(7)) {
+    switch (below(8)) {
     case 0: flip(at, 4); break;
     case 1: fill(at + 20, 16); break;
     case 2: put(at + 36, c->message.len - TRANSFORM + below(5) - 2, 4); break;
     case 3: fill(at + 40, 2); break;
     case 4: flip(at + 42, 2); break;
     case 5: put(at + 42, number(), 2); break;
+    case 6: at[32 + below(4)] = (uint8_t)number(); break; /* another sender's nonce, under a right tag */
     default: flip(at + 44, 8); break;
     }
 }

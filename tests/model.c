@@ -176,11 +176,12 @@ uint32_t model_seal(uint32_t role, uint16_t dialect, uint32_t encryption, uint16
     return 0;
 }
 
-uint32_t model_transform_tests(const uint8_t *message)
+uint32_t model_transform_tests(uint16_t dialect, uint16_t cipher, const uint8_t *message)
 {
+    static const uint8_t clean[4];
     if (memcmp(message, "\xFDSMB", 4) != 0) return 4;
     if (little_endian(message + 42, 2) != 1) return 5;
-    return 0;
+    return dialect == 0x0311 && cipher == 2 && memcmp(message + 32, clean, 4) != 0 ? 29 : 0;
 }
 
 uint64_t model_session_id(const uint8_t *message)
@@ -193,7 +194,7 @@ uint32_t model_open(uint32_t role, uint16_t dialect, uint32_t encryption, uint16
 {
     uint64_t visited = 0;
     uint32_t r = model_first_tests(role, dialect, encryption, cipher, key_len, message_len);
-    if (r == 0) r = model_transform_tests(message);
+    if (r == 0) r = model_transform_tests(dialect, cipher, message);
     if (r == 0 && model_session_id(message) != session_id) r = 6;
     if (r != 0) return r;
     size_t n = message_len - TRANSFORM;

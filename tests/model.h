@@ -21,7 +21,7 @@ uint32_t model_verify(const uint8_t *key, size_t key_len, const uint8_t *message
 
 /* Parts of sealing and opening, between which the session table has tests of its own: 40, 1, 2 and 3; then 4 and 5; then the id. */
 uint32_t model_first_tests(uint32_t role, uint16_t dialect, uint32_t encryption, uint16_t cipher, size_t key_len, size_t message_len);
-uint32_t model_transform_tests(const uint8_t *message);
+uint32_t model_transform_tests(uint16_t dialect, uint16_t cipher, const uint8_t *message);
 uint64_t model_session_id(const uint8_t *message);
 
 #endif

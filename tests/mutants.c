@@ -161,6 +161,25 @@ static uint32_t mistake_opening_role(uint32_t role)
     return role;
 }
 
+/* A whole GCM message whose nonce does not end in zeros. */
+static int dirty(uint16_t cipher, const uint8_t *message, size_t message_len)
+{
+    static const uint8_t clean[4];
+    return cipher == 2 && message_len > 52 && memcmp(message + 32, clean, 4) != 0;
+}
+
+/* 29 as a wrong library answers it. */
+static uint32_t mistake_dirty(uint32_t r, uint64_t id, const uint8_t *message)
+{
+    uint8_t own[8];
+    for (int i = 0; i < 8; i++) own[i] = (uint8_t)(id >> 8 * i);
+    if (fault("open: 9 for 29")) return 9;
+    if (fault("open: 6 before 29") && memcmp(message + 44, own, 8) != 0) return 6;
+    if (fault("open: byte 32 is not looked at") && message[33] == 0 && message[34] == 0 && message[35] == 0) return 9;
+    if (fault("open: byte 35 is not looked at") && message[32] == 0 && message[33] == 0 && message[34] == 0) return 9;
+    return r;
+}
+
 uint32_t __real_smb3seal_open(uint32_t, uint16_t, uint32_t, uint16_t, const uint8_t *, size_t, uint64_t, uint8_t *, size_t, uint64_t *);
 uint32_t __wrap_smb3seal_open(uint32_t role, uint16_t dialect, uint32_t encryption, uint16_t cipher, const uint8_t *key, size_t key_len,
                               uint64_t id, uint8_t *message, size_t message_len, uint64_t *headers)
@@ -172,6 +191,8 @@ uint32_t __wrap_smb3seal_open(uint32_t role, uint16_t dialect, uint32_t encrypti
     if (fault("open: Reserved is not in the tag") && message_len > 52) message[40] = message[41] = 0;
     if (fault("open: the key is written")) touch(key);
     if (fault("open: a byte behind the key is read")) look(key + key_len);
+    if (fault("open: 29 before 5") && dialect == 0x0311 && dirty(cipher, message, message_len) && message[42] != 1) return 29;
+    if (fault("open: 29 under CCM too") && key_len == 16 && encryption != 0 && cipher == 1 && dirty(2, message, message_len)) return 29;
     uint32_t r = __real_smb3seal_open(role, dialect, encryption, cipher, key, key_len, id, message, message_len, headers);
     if (fault("open: a byte behind the message is written")) touch(message + message_len);
     int bad_tag = r == 9 && fault("open: plaintext is left after a bad tag");
@@ -179,6 +200,7 @@ uint32_t __wrap_smb3seal_open(uint32_t role, uint16_t dialect, uint32_t encrypti
     if (bad_tag || behind_tag) leave_plaintext(dialect, cipher, key, message, message_len);
     if (fault("open: 10 before 9") && r == 9 && message[36] != (uint8_t)(message_len - 52)) return 10;
     if (fault("open: 16 for 15") && r == 15) return 16;
+    if (r == 29) r = mistake_dirty(r, id, message);
     int marks = r == 14 && role == SMB3SEAL_CLIENT ? sealed_marks(dialect, cipher, key, message, message_len) : 0;
     if (fault("open: a notice by Command and MessageId") && marks == (COMMAND | MESSAGE_ID)) return 0;
     if (fault("open: a notice by Command and SessionId") && marks == (COMMAND | SESSION_ID)) return 0;

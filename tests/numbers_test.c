@@ -8,7 +8,7 @@
 #include "check.h"
 #include "messages.h"
 
-enum { INNER = 200 };
+enum { INNER = 200, GCM = 2 };
 
 /* ---- sealing and opening: faults in the order in which they are tested */
 
@@ -16,7 +16,7 @@ enum { AT_SEAL = 1, AT_OPEN = 2 };
 
 static const struct { uint32_t number; int where; } faults[] = {
     {40, AT_SEAL | AT_OPEN}, {1, AT_SEAL | AT_OPEN},  {2, AT_SEAL | AT_OPEN},  {4, AT_OPEN},
-    {5, AT_OPEN},            {6, AT_OPEN},            {9, AT_OPEN},            {10, AT_OPEN},
+    {5, AT_OPEN},            {29, AT_OPEN},           {6, AT_OPEN},            {9, AT_OPEN},            {10, AT_OPEN},
     {11, AT_SEAL | AT_OPEN}, {12, AT_SEAL | AT_OPEN}, {13, AT_SEAL | AT_OPEN}, {14, AT_SEAL | AT_OPEN},
     {15, AT_SEAL | AT_OPEN}, {16, AT_SEAL | AT_OPEN}, {17, AT_SEAL},
 };
@@ -48,6 +48,7 @@ static void put_outer_fault(struct call *c, uint32_t number)
     case 2: c->message.len = TRANSFORM; break;
     case 4: c->message.at[0] = 0xFE; break;
     case 5: c->message.at[43] = 1; break;
+    case 29: c->message.at[35] = 1; break;
     case 6: c->message.at[51] ^= 0x80; break;
     case 9: c->message.at[4] ^= 1; break;
     case 17: c->counter = UINT64_MAX; break;
@@ -77,7 +78,7 @@ static void every_set(enum function function, uint16_t cipher, int where)
     uint32_t numbers[COUNT(faults)];
     size_t count = 0;
     for (size_t i = 0; i < COUNT(faults); i++)
-        if (faults[i].where & where) numbers[count++] = faults[i].number;
+        if (faults[i].where & where && (faults[i].number != 29 || cipher == GCM)) numbers[count++] = faults[i].number;
     for (uint32_t set = 0; set < (uint32_t)1 << count; set++) one_set(function, cipher, numbers, count, set);
 }
 

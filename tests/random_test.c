@@ -28,7 +28,7 @@ static const struct { enum function function; uint32_t number; } answers[] = {
     {DERIVE, 0}, {DERIVE, 18}, {DERIVE, 19}, {DERIVE, 40}, {FOLD, 0}, {FOLD, 23}, {FOLD, 40}, {FOLD_RESPONSE, 0},
     {FOLD_RESPONSE, 23}, {FOLD_RESPONSE, 40}, {SEAL, 0}, {SEAL, 1}, {SEAL, 2}, {SEAL, 11}, {SEAL, 12}, {SEAL, 13}, {SEAL, 14},
     {SEAL, 15}, {SEAL, 16}, {SEAL, 17}, {SEAL, 40}, {OPEN, 0}, {OPEN, 1}, {OPEN, 2}, {OPEN, 4}, {OPEN, 5}, {OPEN, 6}, {OPEN, 9},
-    {OPEN, 10}, {OPEN, 11}, {OPEN, 12}, {OPEN, 13}, {OPEN, 14}, {OPEN, 15}, {OPEN, 16}, {OPEN, 40},
+    {OPEN, 10}, {OPEN, 11}, {OPEN, 12}, {OPEN, 13}, {OPEN, 14}, {OPEN, 15}, {OPEN, 16}, {OPEN, 29}, {OPEN, 40},
     {SIGN, 0}, {SIGN, 11}, {SIGN, 12}, {SIGN, 40}, {VERIFY, 0}, {VERIFY, 11}, {VERIFY, 12}, {VERIFY, 24}, {VERIFY, 25}, {VERIFY, 40},
 };
 

@@ -93,7 +93,7 @@ uint32_t model_table_open(const struct smb3seal_session *table, size_t table_len
                           uint8_t *message, size_t message_len, uint64_t *headers)
 {
     uint32_t r = first_tests(connection, message_len);
-    if (r == 0) r = model_transform_tests(message);
+    if (r == 0) r = model_transform_tests(connection.dialect, connection.cipher, message);
     if (r != 0) return r;
     uint64_t id = model_session_id(message);
     size_t place = model_table_find(table, table_len, id);

@@ -381,6 +381,8 @@ static uint32_t mistake_open_order(uint32_t r, connection c, const session *s)
     if (fault("table_open: 6 before 2") && r == 2 && s == NULL) return 6;
     if (fault("table_open: 6 before 4") && r == 4 && s == NULL) return 6;
     if (fault("table_open: 6 before 5") && r == 5 && s == NULL) return 6;
+    if (fault("table_open: 6 before 29") && r == 29 && s == NULL) return 6;
+    if (fault("table_open: 9 for 29") && r == 29) return 9;
     if (fault("table_open: 7 before 5") && r == 5 && c.constrained != 0) return 7;
     if (fault("table_open: 7 before 6") && r == 6 && c.constrained != 0) return 7;
     if (fault("table_open: 8 before 7") && r == 7 && (s->guest != 0 || s->anonymous != 0)) return 8;

@@ -14,7 +14,7 @@ enum { INNER = 200 };
 /* ---- sealing and opening: faults in the order in which they are tested */
 
 static const uint32_t seal_faults[] = {1, 2, 6, 7, 8, 11, 12, 13, 14, 15, 16, 17};
-static const uint32_t open_faults[] = {1, 2, 4, 5, 6, 7, 8, 9, 10, 11, 12, 13, 14, 15, 16};
+static const uint32_t open_faults[] = {1, 2, 4, 5, 29, 6, 7, 8, 9, 10, 11, 12, 13, 14, 15, 16};
 
 /* What is wrong inside the message, before it is sealed. */
 static void put_inner_fault(struct table_call *c, uint32_t number)
@@ -67,6 +67,7 @@ static void put_outer_fault(struct table_call *c, uint32_t number)
     case 2: c->message.len = TRANSFORM; break;
     case 4: c->message.at[0] = 0xFE; break;
     case 5: c->message.at[43] = 1; break;
+    case 29: c->message.at[35] = 1; break;
     case 9: c->message.at[4] ^= 1; break;
     }
 }
@@ -100,6 +101,16 @@ static void every_set(enum table_function function, uint16_t cipher, uint8_t rol
         c.connection.role = role;
         one_set(c, numbers, count, set);
     }
+}
+
+/* 29 is for GCM alone. */
+static void every_open_set(uint16_t cipher)
+{
+    uint32_t numbers[COUNT(open_faults)];
+    size_t count = 0;
+    for (size_t i = 0; i < COUNT(open_faults); i++)
+        if (open_faults[i] != 29 || cipher == SMB3SEAL_CIPHER_AES_128_GCM) numbers[count++] = open_faults[i];
+    every_set(TABLE_OPEN, cipher, SMB3SEAL_SERVER, numbers, count);
 }
 
 /* P1 to P4 of the rules. */
@@ -344,7 +355,7 @@ int main(int argc, char **argv)
     for (uint16_t cipher = 1; cipher <= 2; cipher++) {
         sums(cipher);
         every_set(TABLE_SEAL, cipher, SMB3SEAL_CLIENT, seal_faults, COUNT(seal_faults));
-        every_set(TABLE_OPEN, cipher, SMB3SEAL_SERVER, open_faults, COUNT(open_faults));
+        every_open_set(cipher);
     }
     every_dialect();
     every_cipher(0x0300);

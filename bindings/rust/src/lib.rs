@@ -250,7 +250,7 @@ pub fn seal(
 /// `role` is that of the end that opens: a client opens break notices. `session_id` is the session that the caller looked up by the
 /// header. A message that arrives twice opens twice: whether its MessageId was seen before is for the caller to check.
 ///
-/// Refuses with the numbers 1 to 6 and 9 to 16.
+/// Refuses with the numbers 1 to 6, 9 to 16 and 29.
 pub fn open(
     role: Role,
     protection: &Protection,

@@ -53,6 +53,7 @@ refusals! {
     FOLD_LENGTH = 23, "a message to fold has under 64 or over 1,048,576 bytes";
     NOT_SIGNED = 24, "the message is not signed";
     BAD_SIGNATURE = 25, "the signature differs";
+    DIRTY_NONCE = 29, "the nonce does not end in zeros";
     BAD_LENGTH = 40, "a lent key, chain value or place for keys has the wrong length";
 }
 

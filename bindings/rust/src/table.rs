@@ -189,7 +189,7 @@ impl Sessions {
     }
 
     /// Opens in place, as [`crate::open`] does under a key, for the session that the transform header names. A message that arrives
-    /// twice opens twice: whether its MessageId was seen before is for the caller to check. Refuses with the numbers 1 to 16.
+    /// twice opens twice: whether its MessageId was seen before is for the caller to check. Refuses with the numbers 1 to 16 and 29.
     pub fn open(&self, connection: &Connection, message: &mut [u8]) -> Result<Opened, Refusal> {
         let mut headers = 0;
         // SAFETY: as in `seal`; the table is read alone.

@@ -1,6 +1,6 @@
 // What a connection agreed on (RULES 1 and 6). Every function above takes it by value.
 ghost use mathlib.Core.Path.{_≡_};
-ghost use Rattle.protocol.specs.Connection.{knownDialect, encrypts, cipherUsed, longestMessage, lastCounter};
+ghost use Rattle.protocol.specs.Connection.{knownDialect, encrypts, cipherUsed, usesGcm, longestMessage, lastCounter};
 ghost use Rattle.connection.specs.Reading.{bitOf, connectionOf, underKey};
 
 pub const CLIENT: u8 = 0;
@@ -52,6 +52,13 @@ pub fn cipher_used(c: Connection) -> u16
     ensures { λ r. ⌜ r ≡ cipherUsed (connectionOf c) ⌝ }
 {
     if c.dialect == 0x0311 { c.cipher } else { 1 }
+}
+
+// Number 29 may be given.
+pub fn uses_gcm(c: Connection) -> bool
+    ensures { λ r. ⌜ r ≡ usesGcm (connectionOf c) ⌝ }
+{
+    cipher_used(c) == 2
 }
 
 // A flag as the library stores it.

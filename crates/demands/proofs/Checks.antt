@@ -15,8 +15,8 @@ use Rattle.octets.specs.Same.{sameBytes}
 use Rattle.octets.proofs.SameLaws.{same-self, same-equal}
 use Rattle.protocol.specs.Bytes.{Bytes}
 use Rattle.protocol.specs.Answer.{Test}
-use Rattle.protocol.specs.Connection.{other, Connection, knownDialect, encrypts, cipherUsed}
-use Rattle.protocol.specs.TransformHeader.{headerOf, protocolId, inner, originalMessageSize, flagsOf, sessionIdOf}
+use Rattle.protocol.specs.Connection.{usesGcm, other, Connection, knownDialect, encrypts, cipherUsed}
+use Rattle.protocol.specs.TransformHeader.{nonceEnd, headerOf, protocolId, inner, originalMessageSize, flagsOf, sessionIdOf}
 use Rattle.protocol.specs.SessionTable.{Session, openingKey}
 use Rattle.protocol.specs.Transform.{Primitives, plaintextUnder}
 use Rattle.protocol.specs.Calls.{sentBy, openingUnder, Lent, keyTests, messageTests, headerTests, recordTests, textTests, openTests, plaintext, tests}
@@ -105,25 +105,37 @@ module _ (c : Connection) where
 key-passes : (key : Bytes) → length key ≡ 16 → None (keyTests key)
 key-passes key l = past-line _ (ap not (eq-eqb (length key) 16 l)) no-line
 
+-- a line that applies only where a holds
+guarded : (a b : Bool) → (a ≡ true → b ≡ true) → (a && not b) ≡ false
+guarded true b h = ap not (h refl)
+guarded false b h = refl
+
+guards : (a b : Bool) → (a && not b) ≡ false → a ≡ true → b ≡ true
+guards true b e p = not-false b e
+guards false b e p = absurd (let z : _≡_ {A = ℕ} 0 1 = cc in omega arith)
+
 module _ (c : Connection) (m : Bytes) where
-  -- 1 to 5
-  header-passes : HeaderChecks c m → None (messageTests c m ++ headerTests (headerOf m))
+  -- 1 to 5, and 29
+  header-passes : HeaderChecks c m → None (messageTests c m ++ headerTests c (headerOf m))
   header-passes h =
       past-line _ (ap not (says-encrypts c (h .encrypts)))
       (past-line _ (lt-leb (length m) 52 (h .long))
       (past-line _ (le-ltb 1048576 (length (inner m)) (h .short))
       (past-line _ (ap not (ap (λ (x : Bytes). sameBytes x protocolId) (h .begins) ∙ same-self protocolId))
-      (past-line _ (ap not (eq-eqb (flagsOf m) 1 (h .flags))) no-line))))
+      (past-line _ (ap not (eq-eqb (flagsOf m) 1 (h .flags)))
+      (past-line _ (guarded (usesGcm c) (eqb (nonceEnd m) 0) (λ g. eq-eqb (nonceEnd m) 0 (h .clean-nonce (eqb-true (cipherUsed c) 2 g)))) no-line)))))
 
   header-says : not (encrypts c) ≡ false → leb (length m) 52 ≡ false → ltb 1048576 (length (inner m)) ≡ false
-      → not (sameBytes (take 4 m) protocolId) ≡ false → not (eqb (flagsOf m) 1) ≡ false → HeaderChecks c m
-  header-says at1 at2 at3 at4 at5 =
+      → not (sameBytes (take 4 m) protocolId) ≡ false → not (eqb (flagsOf m) 1) ≡ false
+      → (usesGcm c && not (eqb (nonceEnd m) 0)) ≡ false → HeaderChecks c m
+  header-says at1 at2 at3 at4 at5 at29 =
       record {
         encrypts = encrypts-says c (not-false (encrypts c) at1);
         long = leb-false (length m) 52 at2;
         short = ltb-false 1048576 (length (inner m)) at3;
         begins = same-equal (take 4 m) protocolId (not-false (sameBytes (take 4 m) protocolId) at4);
         flags = eqb-true (flagsOf m) 1 (not-false (eqb (flagsOf m) 1) at5);
+        clean-nonce = λ g. eqb-true (nonceEnd m) 0 (guards (usesGcm c) (eqb (nonceEnd m) 0) at29 (eq-eqb (cipherUsed c) 2 g));
       }
 
 -- 6 to 8
@@ -184,7 +196,7 @@ module _ (c : Connection) (key : Bytes) (id : ℕ) (w : Lent) (n : ℕ) where
       let at = line underLines (none-applies underLines passed) in
       record {
         key-fits = eqb-true (length key) 16 (not-false (eqb (length key) 16) (at 40));
-        header = header-says c m (at 1) (at 2) (at 3) (at 4) (at 5);
+        header = header-says c m (at 1) (at 2) (at 3) (at 4) (at 5) (at 29);
         same-id = eqb-true (sessionIdOf m) id (not-false (eqb (sessionIdOf m) id) (at 6));
         text = Option·getD under [];
         carried = carried-says (cipherUsed c) key m (at 9) (at 10);
@@ -211,7 +223,7 @@ module _ (c : Connection) (m : Bytes) (s : Session) (n : ℕ) where
       let at = line recordLines (none-applies recordLines passed) in
       let g = or-false (s .guest) (s .anonymous) (at 8) in
       record {
-        header = header-says c m (at 1) (at 2) (at 3) (at 4) (at 5);
+        header = header-says c m (at 1) (at 2) (at 3) (at 4) (at 5) (at 29);
         known = not-false (s .used) (at 6);
         unconstrained = at 7;
         not-guest = g .0;

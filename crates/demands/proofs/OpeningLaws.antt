@@ -18,7 +18,7 @@ use Rattle.protocol.specs.Transform.{Primitives, sealedUnder, plaintextUnder, o
 use Rattle.protocol.specs.Calls.{sentBy, sealing, opening, Lent, sealTests, openTests, plaintext, tests, effect, answer, left}
 use Rattle.protocol.specs.Sound.{Sound}
 use Rattle.protocol.proofs.HeaderLaws.{written, field-start, field-signature, field-authenticated, field-nonce, field-size, field-flags, field-id, field-body}
-use Rattle.protocol.proofs.HeaderLaws.{written-length}
+use Rattle.protocol.proofs.HeaderLaws.{field-nonce-end, written-length}
 use Rattle.demands.specs.Lines.{None, no-line}
 use Rattle.demands.specs.Walk.{Walked}
 use Rattle.demands.specs.Opening.{HeaderChecks}
@@ -120,6 +120,7 @@ finds P sound d sender key id m b s n fits says on opening-key = rw (says .bytes
             short = rw inner-length (says .short);
             begins = field-start sig body k (length p) id l;
             flags = field-flags sig body k (length p) id l;
+            clean-nonce = λ g. field-nonce-end sig body k (length p) id l;
           };
           size = field-size sig body k (length p) id l (omega (arith, says .short)) ∙ sym inner-length;
           named = field-id sig body k (length p) id l fits;

@@ -9,7 +9,7 @@ use Prim.Native.Nat.{ℕ, _≤_, _<_}
 use lib.ListN.{length, take}
 use Rattle.protocol.specs.Bytes.{Bytes}
 use Rattle.protocol.specs.Connection.{other, Connection, cipherUsed}
-use Rattle.protocol.specs.TransformHeader.{inner, signatureOf, nonceField, authenticatedOf, originalMessageSize, flagsOf, sessionIdOf}
+use Rattle.protocol.specs.TransformHeader.{nonceEnd, inner, signatureOf, nonceField, authenticatedOf, originalMessageSize, flagsOf, sessionIdOf}
 use Rattle.protocol.specs.SessionTable.{Session, openingKey}
 use Rattle.protocol.specs.Calls.{sentBy}
 use Rattle.protocol.specs.Suite.{ciphers}
@@ -33,6 +33,8 @@ pub record HeaderChecks (c : Connection) (m : Bytes) : Type 0 where
   pub begins : take 4 m ≡ 0xFD ∷ 0x53 ∷ 0x4D ∷ 0x42 ∷ []
   -- not 5
   pub flags : flagsOf m ≡ 1
+  -- not 29: bytes 32..36 under GCM
+  pub clean-nonce : cipherUsed c ≡ 2 → nonceEnd m ≡ 0
 
 -- the message carries the text: the authenticated data are its bytes 20..52, the tag its bytes 4..20
 pub record Carries (cipher : ℕ) (key m text : Bytes) : Type 0 where

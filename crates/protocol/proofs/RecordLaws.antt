@@ -63,7 +63,7 @@ module _ (P : Primitives) (c : Connection) (s : Session) (known : s .used ≡ tr
       text = plaintextUnder (P .ciphers) (cipherUsed c) key m
 
       front : List Test
-      front = messageTests c m ++ headerTests (headerOf m)
+      front = messageTests c m ++ headerTests c (headerOf m)
 
       named : List Test
       named = otherSession (eqb (sessionIdOf m) (sessionIdOf m)) ∷ []

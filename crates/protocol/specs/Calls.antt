@@ -18,7 +18,7 @@ use Rattle.protocol.specs.Preauth.{FoldKind, folded, foldMark}
 use Rattle.protocol.specs.Signing.{signatureUnder, signedUnder}
 use Rattle.protocol.specs.SessionTable.{Session, sealingKey, openingKey, recordOf, changeRecord, removeRecord, hasFree, fillFree, Adding, newRecord}
 use Rattle.protocol.specs.SessionTable.{countUp, counterStep}
-use Rattle.protocol.specs.Refusals.{notEncrypting, tooShort, tooLong, notTransform, badFlags, otherSession, constrained, guest, badTag, badSize}
+use Rattle.protocol.specs.Refusals.{notEncrypting, tooShort, tooLong, notTransform, badFlags, dirtyNonce, otherSession, constrained, guest, badTag, badSize}
 use Rattle.protocol.specs.Refusals.{counterUsedUp, unknownDialect, noKeyMaterial, idZero, idTaken, tableFull, foldLength, badLength}
 use Rattle.protocol.specs.Refusals.{innerTooShort, notHeader, notSigned, badSignature}
 use Rattle.protocol.specs.Transform.{Primitives, sealedUnder, plaintextUnder, openedTo}
@@ -126,9 +126,9 @@ chainTests v = badLength (eqb (length v) 64) ∷ []
 abbrev pub messageTests : Connection → Bytes → List Test
 messageTests c m = notEncrypting c ∷ tooShort m ∷ tooLong (inner m) ∷ []
 
--- 4 and 5: every opening, on the header
-abbrev pub headerTests : TransformHeader → List Test
-headerTests h = notTransform h ∷ badFlags h ∷ []
+-- 4, 5 and 29, "tested after 5 and before 6": every opening, on the header
+abbrev pub headerTests : Connection → TransformHeader → List Test
+headerTests c h = notTransform h ∷ badFlags h ∷ dirtyNonce c h ∷ []
 
 -- "Both .. test 3 (over the message's length), 11, 12", and 40 before them
 abbrev pub signTests : Bytes → Bytes → List Test
@@ -176,7 +176,7 @@ module _ (P : Primitives) (c : Connection) (m : Bytes) (s : Session) where
   unfoldable pub openTests : Tests
   openTests =
       record {
-        before = messageTests c m ++ (headerTests (headerOf m) ++ (recordTests c s ++ textTests m plaintext));
+        before = messageTests c m ++ (headerTests c (headerOf m) ++ (recordTests c s ++ textTests m plaintext));
         walked = over (Option·getD plaintext []) (sentBy (other (c .role)) (sessionIdOf m));
         later = [];
       }
@@ -200,7 +200,7 @@ module _ (P : Primitives) where
       let m = w .message in
       let text = plaintextUnder (P .ciphers) (cipherUsed c) key m in
       record {
-        before = keyTests key ++ (messageTests c m ++ (headerTests (headerOf m) ++ (otherSession (eqb (sessionIdOf m) id) ∷ textTests m text)));
+        before = keyTests key ++ (messageTests c m ++ (headerTests c (headerOf m) ++ (otherSession (eqb (sessionIdOf m) id) ∷ textTests m text)));
         walked = over (Option·getD text []) (sentBy (other (c .role)) id);
         later = [];
       }

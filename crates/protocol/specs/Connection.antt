@@ -1,4 +1,4 @@
--- What a connection agreed on: RULES 1, 6 and its numbers 1, 3, 7 and 17. Every call takes it whole;
+-- What a connection agreed on: RULES 1, 6 and its numbers 1, 3, 7, 17 and 29. Every call takes it whole;
 -- a call under one given key does not look at the constraint.
 -- Assumes nothing.
 use mathlib.Core.Bool.{Bool, true, false, cond, not, _&&_, _||_}
@@ -37,6 +37,10 @@ encrypts c =
 -- "Below 3.1.1 the cipher is always CCM"
 abbrev pub cipherUsed : Connection → ℕ
 cipherUsed c = cond (eqb (c .dialect) 0x0311) (c .cipher) 1
+
+-- number 29: "a GCM cipher"
+abbrev pub usesGcm : Connection → Bool
+usesGcm c = eqb (cipherUsed c) 2
 
 -- numbers 3 and 23: "1,048,576 bytes"
 abbrev pub longestMessage : ℕ

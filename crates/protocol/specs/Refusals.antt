@@ -10,7 +10,7 @@ use Rattle.octets.specs.Maybe.{isSome}
 use Rattle.octets.specs.Same.{sameBytes}
 use Rattle.protocol.specs.Bytes.{Bytes}
 use Rattle.protocol.specs.Answer.{Test, refuse_when_}
-use Rattle.protocol.specs.Connection.{Connection, knownDialect, encrypts, longestMessage, lastCounter}
+use Rattle.protocol.specs.Connection.{Connection, knownDialect, encrypts, usesGcm, longestMessage, lastCounter}
 use Rattle.protocol.specs.TransformHeader.{TransformHeader}
 use Rattle.protocol.specs.InnerHeader.{isInnerHeader, isRelated, Envelope, belongs}
 use Rattle.protocol.specs.Preauth.{admitted}
@@ -36,6 +36,10 @@ notTransform h = refuse 4 when not (h .begins)
 -- "Flags not 0x0001"
 abbrev pub badFlags : TransformHeader → Test
 badFlags h = refuse 5 when not (eqb (h .flags) 1)
+
+-- "On opening with a GCM cipher, any non-zero byte among" the last four of the Nonce field
+abbrev pub dirtyNonce : Connection → TransformHeader → Test
+dirtyNonce c h = refuse 29 when usesGcm c && not (eqb (h .nonceEnd) 0)
 
 -- "no used record has this id", or, under one given key, "a transform header with another id"
 abbrev pub otherSession : Bool → Test

@@ -34,10 +34,12 @@ pub fn message_number(c: Connection, m: &[u8], later: u32) -> u32
     refuse(1, !connection::encrypting(c), line2)
 }
 
-// 4, 5: of every opening.
-pub fn header_number(h: TransformHeader, later: u32) -> u32
-    ensures { λ r. ⌜ r ≡ firstElse (headerTests (headerFrom h)) later ⌝ }
+// 4, 5, 29: of every opening.
+pub fn header_number(c: Connection, h: TransformHeader, later: u32) -> u32
+    ensures { λ r. ⌜ r ≡ firstElse (headerTests (connectionOf c) (headerFrom h)) later ⌝ }
 {
-    let line5 = refuse(5, !(h.flags == 1), later);
+    let gcm = connection::uses_gcm(c);
+    let line29 = refuse(29, gcm & !(h.nonce_end == 0), later);
+    let line5 = refuse(5, !(h.flags == 1), line29);
     refuse(4, !h.begins, line5)
 }

@@ -28,7 +28,7 @@ use Rattle.session_record.specs.Contracts.{OpensWith}
 
 module _ (c : Connection) (s : Session) (m : Bytes) where
   abbrev front : List Test
-  front = messageTests c m ++ headerTests (headerOf m)
+  front = messageTests c m ++ headerTests c (headerOf m)
 
   abbrev lines : List Test
   lines = front ++ recordTests c s
@@ -41,13 +41,13 @@ module _ (c : Connection) (s : Session) (m : Bytes) where
 
   -- as the code tests them, a line after the other: what a message that is too short says after 2 counts for nothing
   module _ (h : TransformHeader) (line6 line4 n : ℕ) (eh : h ≡ headerIn m) (e6 : line6 ≡ firstOf (recordTests c s))
-      (e4 : line4 ≡ firstElse (headerTests h) line6)
+      (e4 : line4 ≡ firstElse (headerTests c h) line6)
       (e : n ≡ firstElse (messageTests c m) line4) where
     said : n ≡ firstOf lines
     said = e ∙ rw (e4, e6, eh) (go (leb (length m) 52) refl)
       where
         go : (b : Bool) → leb (length m) 52 ≡ b
-            → firstElse (messageTests c m) (firstElse (headerTests (headerIn m)) (firstOf (recordTests c s))) ≡ firstOf lines
+            → firstElse (messageTests c m) (firstElse (headerTests c (headerIn m)) (firstOf (recordTests c s))) ≡ firstOf lines
         go true b = rw b
         go false b = rw (header-there m (leb-false (length m) 52 b))
 

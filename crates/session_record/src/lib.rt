@@ -167,7 +167,7 @@ pub fn open_record(s: Session, c: Connection, message: &mut [u8]) -> Answer
     let role = c.role;
     let h = transform_header::read_header(message);
     let line6 = lines::record_number(s, c);
-    let line4 = refusals::header_number(h, line6);
+    let line4 = refusals::header_number(c, h, line6);
     let first = refusals::message_number(c, message, line4);
     if first != 0 {
         return Answer::Refused(first);

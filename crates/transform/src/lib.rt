@@ -26,7 +26,7 @@ pub fn open_under(c: Connection, key: &[u8], id: u64, message: &mut [u8]) -> Ans
     let e = envelope::received(c, id);
     let h = transform_header::read_header(message);
     let line6 = refuse(6, !(h.session_id == id), 0);
-    let line4 = refusals::header_number(h, line6);
+    let line4 = refusals::header_number(c, h, line6);
     let line1 = refusals::message_number(c, message, line4);
     let first = refusals::key_number(key, line1);
     if first != 0 {

@@ -13,6 +13,7 @@ headerFrom h =
       begins = h .begins;
       signature = h .signature;
       nonce = h .nonce;
+      nonceEnd = h .«nonce_end»;
       authenticatedData = h .authenticated;
       size = h .size;
       flags = h .flags;
@@ -22,7 +23,7 @@ headerFrom h =
 -- nothing of a header
 abbrev pub noHeader : rules.TransformHeader
 noHeader =
-    record { begins = false; signature = replicate 16 0; nonce = replicate 16 0; authenticatedData = replicate 32 0; size = 0; flags = 0; sessionId = 0 }
+    record { begins = false; signature = replicate 16 0; nonce = replicate 16 0; nonceEnd = 0; authenticatedData = replicate 32 0; size = 0; flags = 0; sessionId = 0 }
 
 -- the header of the message m, or nothing where m has no room for one
 unfoldable pub headerIn : Bytes → rules.TransformHeader

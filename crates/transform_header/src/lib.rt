@@ -7,6 +7,7 @@ pub struct TransformHeader {
     pub begins: bool,
     pub signature: [u8; 16],
     pub nonce: [u8; 16],
+    pub nonce_end: u32,
     pub authenticated: [u8; 32],
     pub size: u32,
     pub flags: u16,
@@ -22,6 +23,7 @@ pub fn read_header(m: &[u8]) -> TransformHeader
             begins: false,
             signature: [0u8; 16],
             nonce: [0u8; 16],
+            nonce_end: 0,
             authenticated: [0u8; 32],
             size: 0,
             flags: 0,
@@ -31,6 +33,7 @@ pub fn read_header(m: &[u8]) -> TransformHeader
     let begins = protocol_id::begins(m, 0, 0xFD);
     let signature = arrays::bytes_16(m, 4);
     let nonce = arrays::bytes_16(m, 20);
+    let nonce_end = little_endian::u32_at(m, 32);
     let authenticated = arrays::bytes_32(m, 20);
     let size = little_endian::u32_at(m, 36);
     let flags = little_endian::u16_at(m, 42);
@@ -39,6 +42,7 @@ pub fn read_header(m: &[u8]) -> TransformHeader
         begins: begins,
         signature: signature,
         nonce: nonce,
+        nonce_end: nonce_end,
         authenticated: authenticated,
         size: size,
         flags: flags,

@@ -4,4 +4,5 @@ use Rattle.refusals.proofs.header_number.Statement.{statement}
 use Rattle.refusals.proofs.header_number.Tie as tie
 
 pub header-number-spec : {M : Type 1} → statement M
-header-number-spec = tie.close (tie.spec (λ c κs. search needs) (λ c κs. search needs) (λ c. cc))
+header-number-spec = tie.close
+    (tie.spec (λ c κs. search needs) (λ c κs. search needs) (λ c κs. search needs) (λ c κs. search needs) (λ c. cc))

@@ -14,15 +14,16 @@ returns-2 : tie.Need-returns-2
 unfolding headerIn
 returns-2 c =
     let c3 = c .before .before .before in
-    let c6 = c3 .before .before .before in
+    let c6 = c3 .before .before .before .before in
     let m = c6 .before .before .before .args .m .now in
     rw (
       le-ltb (length m) 52 (c6 .before .if1 .left),
       c6 .begins .ensures,
-      c3 .before .before .bytes-16 .ensures,
-      c3 .before .bytes-162 .ensures,
+      c3 .before .before .before .bytes-16 .ensures,
+      c3 .before .before .bytes-162 .ensures,
+      c3 .before .u32-at .ensures,
       c3 .bytes-32 .ensures,
-      c .before .before .u32-at .ensures,
+      c .before .before .u32-at2 .ensures,
       c .before .u16-at .ensures,
       c .u64-at .ensures,
     )
@@ -32,6 +33,7 @@ read-header-spec =
     tie.close
     (tie.spec
     returns
+    (λ c κs. search needs)
     (λ c κs. search needs)
     (λ c κs. search needs)
     (λ c κs. search needs)
