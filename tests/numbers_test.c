@@ -205,6 +205,24 @@ static void notice_of_every_role(enum function function, uint16_t cipher)
     }
 }
 
+/* Each value of each of the bytes 32..36, under a right tag: with GCM 29, also before 6; with CCM, which is used below 3.1.1 too, it opens. */
+static void every_nonce_end(uint16_t dialect, uint16_t cipher)
+{
+    int gcm = dialect == 0x0311 && cipher == GCM;
+    for (uint32_t i = 0; i < 4 * 256; i++) {
+        struct call c = plain_call(OPEN, cipher, HEADER);
+        begin_case(i);
+        c.dialect = dialect;
+        put_transform(&c, 1);
+        c.message.at[32 + i / 256] = (uint8_t)i;
+        forge(&c);
+        c.id ^= 1;
+        expect_answer(&c, gcm && i % 256 != 0 ? 29 : 6, "the end of a nonce, and 6");
+        c.id ^= 1;
+        expect_answer(&c, gcm && i % 256 != 0 ? 29 : 0, "the end of a nonce");
+    }
+}
+
 static void every_flags(uint16_t cipher)
 {
     for (uint32_t flags = 0; flags <= 0xFFFF; flags++) {
@@ -236,6 +254,9 @@ int main(int argc, char **argv)
         every_set(OPEN, cipher, AT_OPEN);
         every_dialect(cipher);
         every_flags(cipher);
+        every_nonce_end(0x0300, cipher);
+        every_nonce_end(0x0302, cipher);
+        every_nonce_end(0x0311, cipher);
         for (enum function f = SEAL; f <= OPEN; f++) {
             every_role(f, cipher);
             notice_of_every_role(f, cipher);
