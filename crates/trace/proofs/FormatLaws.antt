@@ -1,10 +1,10 @@
 -- What the readings of the format are, case by case.
 -- Assumes nothing.
-use mathlib.Core.Path.{_≡_, refl, sym, ap, _∙_}
-use mathlib.Core.Bool.{Bool, true, false, cond, not, _&&_}
+use mathlib.Core.Path.{_≡_, refl, sym, ap, ap₂, _∙_}
+use mathlib.Core.Bool.{Bool, true, false, cond, not, _&&_, _||_}
 use Prim.Native.Nat.{ℕ, _+_, _-_, _/_, _%_, _<_, _≤_}
 use native.Mathlib.Omega.{arith}
-use borrow.Author.Tests.{le-leb, lt-leb, leb-true, not-true, not-false, lt-ltb}
+use borrow.Author.Tests.{le-leb, lt-leb, leb-true, eq-eqb, eqb-true, not-true, not-false, lt-ltb}
 use lib.Dec.{leb, ltb, eqb}
 use lib.ListN.{length, drop, length-drop}
 use Rattle.octets.proofs.BoolLaws.{and-true}
@@ -119,6 +119,67 @@ module _ (e : Edition) (f : Bytes) (p : ℕ) where
           let b = h .size in
           let q : p + 4 + n ≡ p + sizeIn e (drop p f) = omega arith in
           rw (lt-leb (length f) p inside, h .good, le-leb (sizeIn e (drop p f)) (length (drop p f)) (omega arith), q, ← h .kind, ← h .from-server, ← h .size)
+
+-- ---- a record that was read
+
+pub readable-good : (e : Edition) (s : Bytes) → readable e s ≡ true → (goodHead e s ≡ true) × (sizeIn e s ≤ length s)
+unfolding readable
+readable-good e s t = let b = and-true (goodHead e s) (leb (sizeIn e s) (length s)) t in (b .0, leb-true (sizeIn e s) (length s) (b .1))
+
+chosen : (a b : Bool) (k′ q′ n′ r′ k q n r : ℕ) (d′ d : Bool) → cond a end (cond b (found k′ d′ q′ n′ r′) unreadable) ≡ found k d q n r
+    → (b ≡ true) × (k′ ≡ k) × (q′ ≡ q) × (n′ ≡ n) × (r′ ≡ r)
+chosen true b k′ q′ n′ r′ k q n r d′ d e = absurd (let z : _≡_ {A = ℕ} 0 1 = cc in omega arith)
+chosen false true k′ q′ n′ r′ k q n r d′ d e = (refl, cc, cc, cc, cc)
+chosen false false k′ q′ n′ r′ k q n r d′ d e = absurd (let z : _≡_ {A = ℕ} 0 1 = cc in omega arith)
+
+-- its payload is n bytes from q on, inside the file, of a length that its kind admits; the next record begins at r
+pub record Was (e : Edition) (f : Bytes) (p k q n r : ℕ) : Type 0 where
+  pub admits : admitted e k n ≡ true
+  pub from : q ≡ p + 4
+  pub next : r ≡ p + 4 + n
+  pub inside : p + 4 + n ≤ length f
+
+good-admits : (e : Edition) (s : Bytes) → goodHead e s ≡ true → admitted e (kindIn (headIn s)) (lengthIn e (headIn s)) ≡ true
+unfolding goodHead
+good-admits e s g = and-true (eqb (headIn s % e .unit) 0) _ (and-true (leb 4 (length s)) _ g .1) .1
+
+pub was : (e : Edition) (f : Bytes) (p k : ℕ) (d : Bool) (q n r : ℕ) → found k d q n r ≡ readAt e f p → Was e f p k q n r
+unfolding readAt
+was e f p k d q n r t =
+    let s = drop p f in
+    let c = chosen (leb (length f) p) (readable e s) _ _ _ _ k q n r (fromServerIn (headIn s)) d (sym t) in
+    let g = readable-good e s (c .0) in
+    let four = four-there e s (g .0) in
+    let i = g .1 in
+    let l = length-drop p f in
+    let z = c .3 in
+    let y = c .4 in
+    record { admits = ap₂ (admitted e) (sym (c .1)) (sym (c .3)) ∙ good-admits e s (g .0); from = sym (c .2); next = omega arith; inside = omega arith }
+
+not-end-of : (b : Bool) (x : Reading) → (end ≡ x → ⊥) → end ≡ cond b x unreadable → ⊥
+not-end-of true x n e = n e
+not-end-of false x n e = let z : _≡_ {A = ℕ} 0 1 = cc in absurd (omega arith)
+
+not-found : (k : ℕ) (d : Bool) (q n r : ℕ) → end ≡ found k d q n r → ⊥
+not-found k d q n r e = let z : _≡_ {A = ℕ} 0 1 = cc in absurd (omega arith)
+
+-- inside the file it is not the end
+pub not-end : (e : Edition) (f : Bytes) (p : ℕ) → p < length f → end ≡ readAt e f p → ⊥
+unfolding readAt
+not-end e f p h t =
+    let s = drop p f in
+    let r = found (kindIn (headIn s)) (fromServerIn (headIn s)) (p + 4) (lengthIn e (headIn s)) (p + sizeIn e s) in
+    not-end-of (readable e s) r (not-found _ _ _ _ _) (t ∙ ap (λ (b : Bool). cond b end (cond (readable e s) r unreadable)) (lt-leb (length f) p h))
+
+-- a record of kind 3 has 24 bytes
+pub admitted-24 : (e : Edition) (k n : ℕ) → admitted e k n ≡ true → 3 ≤ k → 24 ≤ n
+admitted-24 e k n t h =
+    let a = and-true (leb k 3) _ t in
+    let b = and-true (leb n (e .longest)) _ (and-true (leb 1 n) _ (a .1) .1) in
+    let three : eqb k 3 ≡ true = eq-eqb k 3 (let l = leb-true k 3 (a .0) in omega arith) in
+    let same : eqb n 24 ≡ true = ap (λ (x : Bool). not x || eqb n 24) (sym three) ∙ b .1 in
+    let z = eqb-true n 24 same in
+    omega arith
 
 -- ---- a record of a whole file
 

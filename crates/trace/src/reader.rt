@@ -124,11 +124,11 @@ pub fn read_in(file: &[u8], at: usize) -> Read
 {
     let FileHead::Good {
         edition,
-        dialect,
-        cipher,
+        dialect: _,
+        cipher: _,
     } = read_file_head(file)
     else {
-        return Read::Unreadable;
+        return Read::Unreadable; // at every place
     };
     read_record(edition, file, at)
 }

@@ -16,9 +16,10 @@ use Rattle.trace.specs.Format.{Bytes, Edition, editionOf, known, headIn, editio
 use Rattle.trace.specs.Format.{sizeIn, readable}
 use Rattle.trace.specs.Records.{Record, recordIn, Contents, before, readSome, readAll, recordBytes, writable, recordsBytes, allWritable, fileHeadBytes, Room}
 use Rattle.trace.specs.Records.{accepts, writeNext, writeList, accepted}
+use Rattle.trace.proofs.FormatLaws.{readable-good}
 use Rattle.trace.proofs.WriteLaws.{length-fileHeadBytes}
 use Rattle.trace_theorems.specs.Traces.{Octets, fileOf}
-use Rattle.trace_theorems.proofs.RoundTrip.{octets-drop, Sound, sound, reads, stood, readable-good, read-writable}
+use Rattle.trace_theorems.proofs.RoundTrip.{octets-drop, Sound, sound, reads, stood, read-writable}
 
 abbrev pub stop : Bytes → Contents
 stop s = record { records = []; rest = s }

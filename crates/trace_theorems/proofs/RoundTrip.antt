@@ -16,7 +16,7 @@ use Rattle.octets.proofs.NumberLaws.{big-back}
 use Rattle.trace.specs.Format.{Bytes, Edition, editionOf, headIn, kindIn, fromServerIn, lengthIn, admitted, goodHead, sizeIn, readable}
 use Rattle.trace.specs.Records.{Record, recordIn, bit, recordHead, recordBytes, writable}
 use Rattle.trace_theorems.specs.Traces.{Octets, none, more}
-use Rattle.trace.proofs.FormatLaws.{four-there}
+use Rattle.trace.proofs.FormatLaws.{four-there, readable-good}
 use Rattle.trace.proofs.WriteLaws.{length-recordHead, bit-small}
 
 -- ---- four bytes
@@ -193,10 +193,6 @@ pub record Stood (e : Edition) (s : Bytes) : Type 0 where
   pub bytes : recordBytes e (recordIn e s) ≡ take (sizeIn e s) s
   pub positive : 4 ≤ sizeIn e s
   pub inside : sizeIn e s ≤ length s
-
-pub readable-good : (e : Edition) (s : Bytes) → readable e s ≡ true → (goodHead e s ≡ true) × (sizeIn e s ≤ length s)
-unfolding readable
-readable-good e s t = let b = and-true (goodHead e s) (leb (sizeIn e s) (length s)) t in (b .0, leb-true (sizeIn e s) (length s) (b .1))
 
 spare : (e : Edition) (s : Bytes) → goodHead e s ≡ true → headIn s % e .unit ≡ 0
 unfolding goodHead

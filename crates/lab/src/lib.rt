@@ -1,0 +1,12 @@
+// What replays a lab trace (RULES 15): two chains and a table of sixteen sessions, what a record does with them, and which line comes out.
+mod kinds;
+mod turns;
+
+pub use kinds::Lab;
+pub use kinds::Stepped;
+pub use kinds::fresh;
+pub use kinds::step;
+pub use turns::HELD;
+pub use turns::Line;
+pub use turns::Turn;
+pub use turns::replay_at;
