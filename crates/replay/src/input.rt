@@ -16,6 +16,11 @@ fn least(a: usize, b: usize) -> usize
     if a < b { a } else { b }
 }
 
+// Room for a head, and for the longest payload that is held.
+pub fn window() -> [u8; 65540] {
+    [0; 65540]
+}
+
 // The first n bytes, or all.
 pub fn front(b: &[u8], n: usize) -> &[u8]
     ensures { λ r. ⌜ now r ≡ take n (now (b .entry)) ⌝ }

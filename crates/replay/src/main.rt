@@ -70,7 +70,7 @@ fn records(fd: i32, edition: u8, from: Lab, window: &mut [u8]) {
 }
 
 fn replay(fd: i32) {
-    let mut window = [0u8; 65540];
+    let mut window = input::window();
     let n = input::read_to(fd, &mut window, 0, 4);
     let FileHead::Good {
         edition,

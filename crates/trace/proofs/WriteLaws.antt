@@ -6,15 +6,15 @@ use mathlib.Core.List.{_++_}
 use Prim.Native.Nat.{ℕ, _+_, _*_, _<_, _≤_}
 use native.Mathlib.Nat.{mul-le-mul-right}
 use native.Mathlib.Omega.{arith}
-use borrow.Author.Tests.{le-leb, lt-leb, leb-true, leb-false, lt-ltb, not-true, not-false}
+use borrow.Author.Tests.{le-leb, lt-leb, leb-true, leb-false, lt-ltb, le-ltb, not-true, not-false}
 use lib.Dec.{leb, ltb}
 use lib.ListN.{length, take, drop, length-append}
 use lib.Seq.{paste, take-at, drop-at, take-length}
-use Rattle.octets.proofs.BoolLaws.{and-true}
+use Rattle.octets.proofs.BoolLaws.{and-true, both}
 use Rattle.octets.proofs.Paste.{paste-more}
 use Rattle.octets.proofs.NumberLaws.{length-toBigEndian}
 use Rattle.trace.specs.Format.{Bytes, Edition, editionOf, known, admitted}
-use Rattle.trace.specs.Records.{Record, recordHead, recordBytes, writable, fileHeadBytes, bit}
+use Rattle.trace.specs.Records.{Record, recordHead, recordBytes, writable, headWritable, fileHeadBytes, bit}
 use Rattle.trace.specs.Answers.{Writes, upTo, recordWith}
 use Rattle.trace.specs.declared.writer.Writing.the-variants.{UpTo, Refused}
 use Rattle.trace.specs.Layouts.{IsEdition}
@@ -68,6 +68,10 @@ in-field l e k n is t =
     let f = is .fits in
     (leb-true k 3 (p .0), omega arith, u)
 
+and-false : (b : Bool) → (b && false) ≡ false
+and-false true = refl
+and-false false = refl
+
 -- ---- the answers
 
 module _ (ok : Bool) (b room : Bytes) (p : ℕ) where
@@ -75,11 +79,7 @@ module _ (ok : Bool) (b room : Bytes) (p : ℕ) where
   not-read e = record { answer = rw e refl; bytes = rw e refl }
 
   full : leb (p + length b) (length room) ≡ false → (ok && leb (p + length b) (length room)) ≡ false
-  full e = rw e (no ok)
-    where
-      no : (x : Bool) → (x && false) ≡ false
-      no true = refl
-      no false = refl
+  full e = rw e (and-false ok)
 
   pub not-held : leb (p + length b) (length room) ≡ false → Writes ok b room p (Refused 36) room
   not-held e = record { answer = rw (full e); bytes = rw (full e) }
@@ -123,17 +123,21 @@ module _ (e : Edition) (k : ℕ) (d : Bool) (pay room : Bytes) (at : ℕ) (admit
 -- ---- a file head
 
 module _ (e d c : ℕ) (room : Bytes) (longest : ℕ) (its : longest ≡ editionOf e .longest) where
-  pub head-not-read : longest ≡ 0 → Writes (known e) (fileHeadBytes e d c) room 0 (Refused 36) room
-  head-not-read z = not-read (known e) (fileHeadBytes e d c) room 0 (ap (ltb 0) (sym its ∙ z))
+  pub head-unknown : longest ≡ 0 → Writes (headWritable e c) (fileHeadBytes e d c) room 0 (Refused 36) room
+  head-unknown z = not-read (headWritable e c) (fileHeadBytes e d c) room 0 (ap (λ (b : Bool). b && ltb c 256) (ap (ltb 0) (sym its ∙ z)))
 
-  pub head-not-held : length room < 4 → Writes (known e) (fileHeadBytes e d c) room 0 (Refused 36) room
+  pub head-wide : 256 ≤ c → Writes (headWritable e c) (fileHeadBytes e d c) room 0 (Refused 36) room
+  head-wide h = not-read (headWritable e c) (fileHeadBytes e d c) room 0 (ap (λ (b : Bool). known e && b) (le-ltb c 256 h) ∙ and-false (known e))
+
+  pub head-not-held : length room < 4 → Writes (headWritable e c) (fileHeadBytes e d c) room 0 (Refused 36) room
   head-not-held h =
       let z = length-fileHeadBytes e d c in
-      not-held (known e) (fileHeadBytes e d c) room 0 (lt-leb (0 + length (fileHeadBytes e d c)) (length room) (omega arith))
+      not-held (headWritable e c) (fileHeadBytes e d c) room 0 (lt-leb (0 + length (fileHeadBytes e d c)) (length room) (omega arith))
 
-  pub head-written : (longest ≡ 0 → ⊥) → 4 ≤ length room → (after : Bytes) → after ≡ paste room 0 (fileHeadBytes e d c) (length (fileHeadBytes e d c))
-      → Writes (known e) (fileHeadBytes e d c) room 0 (UpTo 4) after
-  head-written n h after ea =
+  pub head-written : (longest ≡ 0 → ⊥) → c < 256 → 4 ≤ length room → (after : Bytes)
+      → after ≡ paste room 0 (fileHeadBytes e d c) (length (fileHeadBytes e d c)) → Writes (headWritable e c) (fileHeadBytes e d c) room 0 (UpTo 4) after
+  head-written n hc h after ea =
       let z = length-fileHeadBytes e d c in
       let held = le-leb (0 + length (fileHeadBytes e d c)) (length room) (omega arith) in
-      written (known e) (fileHeadBytes e d c) room 0 (ap (ltb 0) (sym its) ∙ lt-ltb 0 longest (omega arith)) held 4 after (omega arith) ea
+      let some : known e ≡ true = ap (ltb 0) (sym its) ∙ lt-ltb 0 longest (omega arith) in
+      written (headWritable e c) (fileHeadBytes e d c) room 0 (both (known e) (ltb c 256) some (lt-ltb c 256 hc)) held 4 after (omega arith) ea

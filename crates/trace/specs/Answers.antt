@@ -7,7 +7,7 @@ use lib.Dec.{leb}
 use lib.ListN.{length}
 use lib.Seq.{paste}
 use Rattle.trace.specs.Format.{Bytes, unreadableNumber, FileReading, fileHead, badFileHead, HeadReading, head, badHead, Reading, found, end, unreadable}
-use Rattle.trace.specs.Records.{Record}
+use Rattle.trace.specs.Records.{Record, bit}
 use Rattle.trace.specs.declared.reader.FileHead.{FileHead}
 use Rattle.trace.specs.declared.reader.FileHead.the-variants as file
 use Rattle.trace.specs.declared.reader.Head.{Head}
@@ -56,3 +56,52 @@ roomAfter ok b room p = cond (ok && leb (p + length b) (length room)) (paste roo
 pub record Writes (ok : Bool) (b room : Bytes) (p : ℕ) (r : Writing) (after : Bytes) : Type 0 where
   pub answer : writtenOf r ≡ writeAnswer ok b (length room) p
   pub bytes : after ≡ roomAfter ok b room p
+
+-- ---- as numbers and lent places, for C
+
+abbrev pub writtenNumber : Written → ℕ
+writtenNumber (upTo n) = 0
+writtenNumber (refused n) = n
+
+-- what the place of the next record holds afterwards, where it held h
+abbrev pub placeBehind : Written → ℕ → ℕ
+placeBehind (upTo n) h = n
+placeBehind (refused n) h = h
+
+abbrev pub fileNumber : FileReading → ℕ
+fileNumber (fileHead e d c) = 0
+fileNumber badFileHead = unreadableNumber
+
+abbrev pub dialectTo : FileReading → ℕ → ℕ
+dialectTo (fileHead e d c) h = d
+dialectTo badFileHead h = h
+
+abbrev pub cipherTo : FileReading → ℕ → ℕ
+cipherTo (fileHead e d c) h = c
+cipherTo badFileHead h = h
+
+-- of a record, what each place holds afterwards: at the end the length of the payload is 0, and no payload has that length
+abbrev pub kindTo : Reading → ℕ → ℕ
+kindTo (found k d q n r) h = k
+kindTo end h = h
+kindTo unreadable h = h
+
+abbrev pub fromServerTo : Reading → ℕ → ℕ
+fromServerTo (found k d q n r) h = bit d
+fromServerTo end h = h
+fromServerTo unreadable h = h
+
+abbrev pub payloadTo : Reading → ℕ → ℕ
+payloadTo (found k d q n r) h = q
+payloadTo end h = h
+payloadTo unreadable h = h
+
+abbrev pub lengthTo : Reading → ℕ → ℕ
+lengthTo (found k d q n r) h = n
+lengthTo end h = 0
+lengthTo unreadable h = h
+
+abbrev pub nextTo : Reading → ℕ → ℕ
+nextTo (found k d q n r) h = r
+nextTo end h = h
+nextTo unreadable h = h

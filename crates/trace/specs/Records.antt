@@ -3,11 +3,11 @@
 use mathlib.Core.Bool.{Bool, true, false, cond, _&&_}
 use mathlib.Core.List.{List, [], _∷_, _++_}
 use Prim.Native.Nat.{ℕ, zero, suc, _+_, _*_}
-use lib.Dec.{leb}
+use lib.Dec.{leb, ltb}
 use lib.ListN.{length, take, drop}
 use lib.Seq.{paste}
 use Rattle.octets.specs.Numbers.{toBigEndian}
-use Rattle.trace.specs.Format.{Bytes, Edition, headIn, kindIn, fromServerIn, lengthIn, sizeIn, readable, admitted}
+use Rattle.trace.specs.Format.{Bytes, Edition, known, headIn, kindIn, fromServerIn, lengthIn, sizeIn, readable, admitted}
 
 pub record Record : Type 0 where
   pub kind : ℕ
@@ -66,6 +66,10 @@ recordsBytes e (r ∷ rs) = recordBytes e r ++ recordsBytes e rs
 abbrev pub allWritable : Edition → List Record → Bool
 allWritable e [] = true
 allWritable e (r ∷ rs) = writable e r && allWritable e rs
+
+-- a file head that the reader would read: of a known edition, and with a cipher that its eight bits hold
+abbrev pub headWritable : ℕ → ℕ → Bool
+headWritable edition cipher = known edition && ltb cipher 256
 
 -- "File head, 32 bits: edition 8, dialect 16, cipher 8"
 unfoldable pub fileHeadBytes : ℕ → ℕ → ℕ → Bytes

@@ -10,9 +10,9 @@ ghost use mathlib.Core.List.{_++_};
 ghost use lib.Dec.{leb};
 ghost use lib.ListN.{length};
 ghost use lib.Seq.{paste};
-ghost use Rattle.trace.specs.Format.{editionOf, known, admitted};
-ghost use Rattle.trace.specs.Records.{bit, recordHead, fileHeadBytes, recordBytes, writable, writtenEdition};
-ghost use Rattle.trace.specs.Answers.{Writes, recordWith};
+ghost use Rattle.trace.specs.Format.{editionOf, admitted};
+ghost use Rattle.trace.specs.Records.{bit, recordHead, fileHeadBytes, headWritable, recordBytes, writable, writtenEdition};
+ghost use Rattle.trace.specs.Answers.{Writes, recordWith, writtenOf, writtenNumber, placeBehind};
 
 // The edition of every record that is written.
 const WRITTEN: u8 = 1;
@@ -24,22 +24,42 @@ pub enum Writing {
     Refused(u32),
 }
 
-fn bit_of(b: bool) -> u32
+// The number that a caller gets.
+pub fn written_number(w: Writing) -> u32
+    ensures { λ r. ⌜ r ≡ writtenNumber (writtenOf w) ⌝ }
+{
+    match w {
+        Writing::UpTo(_) => 0,
+        Writing::Refused(n) => n,
+    }
+}
+
+// What the caller's place of the next record holds afterwards.
+pub fn place_to(w: Writing, lent: usize) -> usize
+    ensures { λ r. ⌜ r ≡ placeBehind (writtenOf w) lent ⌝ }
+{
+    match w {
+        Writing::UpTo(n) => n,
+        Writing::Refused(_) => lent,
+    }
+}
+
+pub fn bit_of(b: bool) -> u32
     ensures { λ r. ⌜ r ≡ bit b ⌝ }
 {
     if b { 1 } else { 0 }
 }
 
 // The head of a record whose length stands in its field.
-fn head_number(kind: u8, from_server: bool, field: usize) -> u32
+fn head_number(kind: u32, from_server: bool, field: usize) -> u32
     requires { ⌜ (kind ≤ 3) × (field < 268435456) ⌝ }
     ensures { λ r. ⌜ r ≡ kind * 536870912 + bit «from_server» * 268435456 + field ⌝ }
 {
-    (kind as u32) * 536870912 + bit_of(from_server) * 268435456 + (field as u32)
+    kind * 536870912 + bit_of(from_server) * 268435456 + (field as u32)
 }
 
 // The four bytes before a payload of n bytes.
-fn head_bytes(kind: u8, from_server: bool, n: usize) -> [u8; 4]
+fn head_bytes(kind: u32, from_server: bool, n: usize) -> [u8; 4]
     requires { ⌜ admitted (editionOf writtenEdition) kind n ≡ true ⌝ }
     ensures { λ r. ⌜ r ≡ recordHead (editionOf writtenEdition) kind «from_server» n ⌝ }
 {
@@ -70,11 +90,14 @@ fn holds(room: usize, at: usize, n: usize) -> bool
 }
 
 // Writes a file head at the start of the room.
-pub fn write_file_head(edition: u8, dialect: u16, cipher: u8, room: &mut [u8]) -> Writing
-    ensures { λ r. ⌜ Writes (known edition) (fileHeadBytes edition dialect cipher) (now (room .entry)) 0 r (now (room .exit)) ⌝ }
+pub fn write_file_head(edition: u8, dialect: u16, cipher: u16, room: &mut [u8]) -> Writing
+    ensures { λ r. ⌜ Writes (headWritable edition cipher) (fileHeadBytes edition dialect cipher) (now (room .entry)) 0 r (now (room .exit)) ⌝ }
 {
     let l = layout_of(edition);
     if l.longest == 0 {
+        return Writing::Refused(36);
+    }
+    if 256 <= cipher {
         return Writing::Refused(36);
     }
     if room.len() < 4 {
@@ -87,7 +110,7 @@ pub fn write_file_head(edition: u8, dialect: u16, cipher: u8, room: &mut [u8]) -
 
 // Writes a record at a place of the room.
 pub fn write_record(
-    kind: u8,
+    kind: u32,
     from_server: bool,
     payload: &[u8],
     room: &mut [u8],

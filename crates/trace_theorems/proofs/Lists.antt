@@ -5,16 +5,16 @@ use mathlib.Core.Bool.{Bool, true, false, cond, _&&_}
 use mathlib.Core.List.{List, [], _∷_, _++_, append-assoc, append-nil}
 use Prim.Native.Nat.{ℕ, zero, suc, _+_, _*_, _<_, _≤_}
 use native.Mathlib.Omega.{arith}
-use borrow.Author.Tests.{leb-true, le-leb}
-use Rattle.octets.proofs.BoolLaws.{and-true}
-use lib.Dec.{leb}
+use borrow.Author.Tests.{leb-true, le-leb, lt-ltb, ltb-true}
+use Rattle.octets.proofs.BoolLaws.{and-true, both}
+use lib.Dec.{leb, ltb}
 use lib.ListN.{length, take, drop, length-append, length-drop, length-take, take-append-drop}
 use lib.Seq.{paste, take-at, drop-at, take-length, take-paste, length-paste}
 use Rattle.octets.specs.Numbers.{bigEndian}
 use Rattle.octets.proofs.NumberLaws.{big-back}
 use Rattle.trace.specs.Format.{Bytes, Edition, editionOf, known, headIn, editionIn, dialectIn, cipherIn, goodFileHead, fileHead, badFileHead, readFileHead}
 use Rattle.trace.specs.Format.{sizeIn, readable}
-use Rattle.trace.specs.Records.{Record, recordIn, Contents, before, readSome, readAll, recordBytes, writable, recordsBytes, allWritable, fileHeadBytes, Room}
+use Rattle.trace.specs.Records.{Record, recordIn, Contents, before, readSome, readAll, recordBytes, writable, recordsBytes, allWritable, headWritable, fileHeadBytes, Room}
 use Rattle.trace.specs.Records.{accepts, writeNext, writeList, accepted}
 use Rattle.trace.proofs.FormatLaws.{readable-good}
 use Rattle.trace.proofs.WriteLaws.{length-fileHeadBytes}
@@ -199,10 +199,12 @@ calls-read n rs w h =
 -- ---- whole files
 
 -- a file head, and whatever stands behind it
-pub file-read : (n d c : ℕ) (s : Bytes) → known n ≡ true → n < 256 → d < 65536 → c < 256
+pub file-read : (n d c : ℕ) (s : Bytes) → headWritable n c ≡ true → n < 256 → d < 65536
     → (readFileHead (fileHeadBytes n d c ++ s) ≡ fileHead n d c) × (drop 4 (fileHeadBytes n d c ++ s) ≡ s)
 unfolding readFileHead goodFileHead fileHeadBytes
-file-read n d c s k hn hd hc =
+file-read n d c s w hn hd =
+    let ok = and-true (known n) (ltb c 256) w in
+    let hc = ltb-true c 256 (ok .1) in
     let b : Bytes = fileHeadBytes n d c in
     let x : ℕ = n * 16777216 + d * 256 + c in
     let four : length b ≡ 4 = length-fileHeadBytes n d c in
@@ -211,12 +213,12 @@ file-read n d c s k hn hd hc =
     let en : editionIn (headIn (b ++ s)) ≡ n = ap editionIn e ∙ omega arith in
     let ed : dialectIn (headIn (b ++ s)) ≡ d = ap dialectIn e ∙ omega arith in
     let ec : cipherIn (headIn (b ++ s)) ≡ c = ap cipherIn e ∙ omega arith in
-    (rw (le-leb 4 (length (b ++ s)) long, ap known en ∙ k) (λ i. fileHead (en i) (ed i) (ec i)), drop-at b s 4 four)
+    (rw (le-leb 4 (length (b ++ s)) long, ap known en ∙ ok .0) (λ i. fileHead (en i) (ed i) (ec i)), drop-at b s 4 four)
 
-pub whole-file : (n d c : ℕ) (rs : List Record) → known n ≡ true → n < 256 → d < 65536 → c < 256 → allWritable (editionOf n) rs ≡ true
+pub whole-file : (n d c : ℕ) (rs : List Record) → headWritable n c ≡ true → n < 256 → d < 65536 → allWritable (editionOf n) rs ≡ true
     → (readFileHead (fileOf n d c rs) ≡ fileHead n d c) × (readAll (editionOf n) (drop 4 (fileOf n d c rs)) ≡ record { records = rs; rest = [] })
-whole-file n d c rs k hn hd hc w =
-    let f = file-read n d c (recordsBytes (editionOf n) rs) k hn hd hc in
+whole-file n d c rs k hn hd w =
+    let f = file-read n d c (recordsBytes (editionOf n) rs) k hn hd in
     (f .0, ap (readAll (editionOf n)) (f .1) ∙ same-records n rs w)
 
 -- a file of any other edition is refused by its edition byte
@@ -228,15 +230,20 @@ other-edition f k = by (leb 4 (length f)) (known (editionIn (headIn f))) k
     by true b q = rw q
     by false b q = refl
 
--- a head that is read back is of a known edition
-pub head-known : (f : Bytes) (n d c : ℕ) → readFileHead f ≡ fileHead n d c → known n ≡ true
+-- a head that is read back is of a known edition, with a cipher of eight bits
+pub head-back : (f : Bytes) (n d c : ℕ) → readFileHead f ≡ fileHead n d c → headWritable n c ≡ true
 unfolding readFileHead goodFileHead
-head-known f n d c t = by (leb 4 (length f) && known (editionIn (headIn f))) refl t
+head-back f n d c t = by (leb 4 (length f) && known (editionIn (headIn f))) refl t
   where
+    edition : {x y z a b c : ℕ} → fileHead x y z ≡ fileHead a b c → x ≡ a
+    edition e = cc
+
+    cipher : {x y z a b c : ℕ} → fileHead x y z ≡ fileHead a b c → z ≡ c
+    cipher e = cc
+
     by : (b : Bool) → (leb 4 (length f) && known (editionIn (headIn f))) ≡ b
-        → cond b (fileHead (editionIn (headIn f)) (dialectIn (headIn f)) (cipherIn (headIn f))) badFileHead ≡ fileHead n d c → known n ≡ true
-    by true g q = ap known (sym (edition q)) ∙ and-true (leb 4 (length f)) (known (editionIn (headIn f))) g .1
-      where
-        edition : {x y z a b c : ℕ} → fileHead x y z ≡ fileHead a b c → x ≡ a
-        edition e = cc
+        → cond b (fileHead (editionIn (headIn f)) (dialectIn (headIn f)) (cipherIn (headIn f))) badFileHead ≡ fileHead n d c → headWritable n c ≡ true
+    by true g q =
+        let same = cipher q in
+        both (known n) (ltb c 256) (ap known (sym (edition q)) ∙ and-true (leb 4 (length f)) (known (editionIn (headIn f))) g .1) (lt-ltb c 256 (omega arith))
     by false g q = absurd (let z : _≡_ {A = ℕ} 0 1 = cc in omega arith)

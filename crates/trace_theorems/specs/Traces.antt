@@ -6,7 +6,7 @@ use mathlib.Core.List.{List, [], _∷_, _++_}
 use Prim.Native.Nat.{ℕ, _<_, _≤_}
 use lib.ListN.{length, take, drop}
 use Rattle.trace.specs.Format.{Bytes, editionOf, known, headIn, editionIn, fileHead, badFileHead, readFileHead, goodHead, sizeIn, readable}
-use Rattle.trace.specs.Records.{Record, recordIn, readAll, recordBytes, writable, recordsBytes, allWritable, fileHeadBytes, Room, writeList, accepted}
+use Rattle.trace.specs.Records.{Record, recordIn, readAll, recordBytes, writable, recordsBytes, allWritable, headWritable, fileHeadBytes, Room, writeList, accepted}
 
 -- all are bytes
 pub data Octets : Bytes → Type 0 where
@@ -18,14 +18,14 @@ abbrev pub fileOf : ℕ → ℕ → ℕ → List Record → Bytes
 fileOf n d c rs = fileHeadBytes n d c ++ recordsBytes (editionOf n) rs
 
 -- "The writer answers 36 exactly to a file head or record that the reader would not read": by the contracts of the code it writes what is
--- writable, or of a known edition, where the room holds it. That is exactly what the reader reads back, whatever stands behind it
+-- writable where the room holds it. That is exactly what the reader reads back, whatever stands behind it
 pub record WritesWhatIsRead : Type 0 where
   pub record-read : (n : ℕ) (r : Record) (rest : Bytes) → let e = editionOf n in let s = recordBytes e r ++ rest in
       writable e r ≡ true → (readable e s ≡ true) × (recordIn e s ≡ r)
   pub record-written : (n : ℕ) (r : Record) (rest : Bytes) → let e = editionOf n in let s = recordBytes e r ++ rest in
       readable e s ≡ true → recordIn e s ≡ r → writable e r ≡ true
-  pub head-read : (n d c : ℕ) (rest : Bytes) → n < 256 → d < 65536 → c < 256 → known n ≡ true → readFileHead (fileHeadBytes n d c ++ rest) ≡ fileHead n d c
-  pub head-written : (n d c : ℕ) (rest : Bytes) → readFileHead (fileHeadBytes n d c ++ rest) ≡ fileHead n d c → known n ≡ true
+  pub head-read : (n d c : ℕ) (rest : Bytes) → n < 256 → d < 65536 → headWritable n c ≡ true → readFileHead (fileHeadBytes n d c ++ rest) ≡ fileHead n d c
+  pub head-written : (n d c : ℕ) (rest : Bytes) → readFileHead (fileHeadBytes n d c ++ rest) ≡ fileHead n d c → headWritable n c ≡ true
 
 -- "Writing then reading gives the same records"
 pub record WritingThenReading : Type 0 where
@@ -34,7 +34,7 @@ pub record WritingThenReading : Type 0 where
   pub calls-read : (n : ℕ) (rs : List Record) (w : Room) → w .at ≤ length (w .bytes) → let e = editionOf n in let after = writeList e rs w in
       readAll e (drop (w .at) (take (after .at) (after .bytes))) ≡ record { records = accepted e rs w; rest = [] }
   -- every file of records that the writer accepts
-  pub file-read : (n d c : ℕ) (rs : List Record) → n < 256 → d < 65536 → c < 256 → known n ≡ true → allWritable (editionOf n) rs ≡ true
+  pub file-read : (n d c : ℕ) (rs : List Record) → n < 256 → d < 65536 → headWritable n c ≡ true → allWritable (editionOf n) rs ≡ true
       → (readFileHead (fileOf n d c rs) ≡ fileHead n d c) × (readAll (editionOf n) (drop 4 (fileOf n d c rs)) ≡ record { records = rs; rest = [] })
   -- and of any bytes: what was read, written again, and what is left are those bytes; the writer accepts every record that was read
   pub written-again : (n : ℕ) (s : Bytes) → Octets s → let c = readAll (editionOf n) s in
