@@ -34,6 +34,7 @@ static inline const char *smb3seal_text(uint32_t number)
     case SMB3SEAL_ID_TAKEN: return "a session with this id is in the table";
     case SMB3SEAL_TABLE_FULL: return "the session table is full";
     case SMB3SEAL_FOLD_LENGTH: return "a message to fold has under 64 or over 1,048,576 bytes";
+    case SMB3SEAL_UNREADABLE: return "the trace cannot be read here, or would not be, or its room is full";
     case SMB3SEAL_BAD_LENGTH: return "a lent key, chain value or place for keys has the wrong length";
     default: return "unknown number";
     }

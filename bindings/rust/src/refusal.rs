@@ -51,6 +51,7 @@ refusals! {
     ID_TAKEN = 21, "a session with this id is in the table";
     TABLE_FULL = 22, "the session table is full";
     FOLD_LENGTH = 23, "a message to fold has under 64 or over 1,048,576 bytes";
+    UNREADABLE = 36, "the trace cannot be read here, or would not be, or its room is full";
     BAD_LENGTH = 40, "a lent key, chain value or place for keys has the wrong length";
 }
 

@@ -1,4 +1,4 @@
--- The replay of a whole trace: RULES 15.
+-- The replay of a whole trace: RULES 16.
 -- Assumes nothing.
 use mathlib.Core.Bool.{cond}
 use mathlib.Core.List.{List, [], _∷_, _++_}

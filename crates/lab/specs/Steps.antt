@@ -1,4 +1,4 @@
--- What a record of a trace does in the lab: RULES 15. A record makes one call.
+-- What a record of a trace does in the lab: RULES 16. A record makes one call.
 -- Assumes nothing.
 use mathlib.Core.Path.{_≡_}
 use mathlib.Core.Bool.{Bool, true, false, cond}

@@ -1,4 +1,4 @@
-// What replays a lab trace (RULES 15): two chains and a table of sixteen sessions, what a record does with them, and which line comes out.
+// What replays a lab trace (RULES 16): two chains and a table of sixteen sessions, what a record does with them, and which line comes out.
 mod kinds;
 mod turns;
 

@@ -1,4 +1,4 @@
--- The enums of the code, read as the readings of the format, and what the writer promises: RULES 15.
+-- The enums of the code, read as the readings of the format, and what the writer promises: RULES 16.
 -- Assumes nothing.
 use mathlib.Core.Path.{_≡_}
 use mathlib.Core.Bool.{Bool, cond, _&&_}

@@ -1,4 +1,4 @@
--- The format of a lab trace: RULES 15. "House format, bits most significant first."
+-- The format of a lab trace: RULES 16. "House format, bits most significant first."
 -- Assumes nothing.
 use mathlib.Core.Bool.{Bool, cond, not, _&&_, _||_}
 use mathlib.Core.List.{List}

@@ -1,4 +1,4 @@
--- Records, read from bytes and written as bytes: RULES 15.
+-- Records, read from bytes and written as bytes: RULES 16.
 -- Assumes nothing.
 use mathlib.Core.Bool.{Bool, true, false, cond, _&&_}
 use mathlib.Core.List.{List, [], _∷_, _++_}

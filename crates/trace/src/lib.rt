@@ -1,4 +1,4 @@
-// The lab trace (RULES 15): its heads and records, read from bytes and written into lent room.
+// The lab trace (RULES 16): its heads and records, read from bytes and written into lent room.
 mod layout;
 mod places;
 mod reader;

@@ -1,4 +1,4 @@
--- What the reader and the writer of a trace are to each other: RULES 15.
+-- What the reader and the writer of a trace are to each other: RULES 16.
 -- Assumes nothing.
 use mathlib.Core.Path.{_≡_}
 use mathlib.Core.Bool.{true, false}
