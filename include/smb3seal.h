@@ -39,7 +39,7 @@
  *   as many bytes or records behind it as its length says. The library cannot check this, nor that a counter value is new under its
  *   key, nor that a table is the one that the call before left.
  * - Each function but smb3seal_table_find returns SMB3SEAL_DONE (0), or the number of the one reason for which it refused. After a
- *   refusal every byte and every number that was lent is as it was: message, table, counter, headers, folded, chain, keys.
+ *   refusal every byte and every number that was lent is as it was: message, table, counter, headers, folded, chain, keys, trace.
  * - Where several reasons apply, SMB3SEAL_BAD_LENGTH comes first and then the lowest number wins, except inside the walk over the
  *   headers of a compounded message, which ends at the first header that breaks a rule.
  *

@@ -3,9 +3,7 @@ mod kinds;
 mod turns;
 
 pub use kinds::Lab;
-pub use kinds::Stepped;
 pub use kinds::fresh;
-pub use kinds::step;
 pub use turns::HELD;
 pub use turns::Line;
 pub use turns::Turn;
