@@ -48,7 +48,8 @@ def sealed(rng, lab, from_server):
     if not lab.table or not lab.encrypts() or rng.random() < 0.15:
         return message(rng, rng.choice(LENGTHS))
     identity = rng.choice(list(lab.table))
-    m = bytearray(lab.sealed(identity, from_server, inner(rng, identity), rng.randbytes(16)))
+    size = None if rng.random() < 0.95 else rng.randrange(300)
+    m = bytearray(lab.sealed(identity, from_server, inner(rng, identity), rng.randbytes(16), size))
     if rng.random() < 0.15:
         m[rng.randrange(len(m))] ^= 1 << rng.randrange(8)
     return bytes(m) or b"\0"

@@ -166,9 +166,9 @@ class Lab:
             return 10
         return walk(inner, identity)
 
-    def sealed(self, identity, from_server, inner, nonce):
-        """A message as the other end would make it; the nonce field has 16 bytes."""
-        data = nonce + len(inner).to_bytes(4, "little") + b"\0\0\1\0" + identity.to_bytes(8, "little")
+    def sealed(self, identity, from_server, inner, nonce, size=None):
+        """A message as the other end would make it, or with another size in its header; the nonce field has 16 bytes."""
+        data = nonce + (len(inner) if size is None else size).to_bytes(4, "little") + b"\0\0\1\0" + identity.to_bytes(8, "little")
         key = self.table[identity][int(from_server)]
         if self.dialect == 0x0311 and self.cipher == 2:
             out = AESGCM(key).encrypt(nonce[:12], inner, data)
