@@ -1,4 +1,4 @@
-# make             the archive, the headers and the manual page, into dist/
+# make             the archive, the headers, smb3seal-replay and the manual pages, into dist/
 # make demo        a published session, from negotiate to an opened response, step by step
 # make examples    the examples and the demo, run and compared
 # make packaging   headers, symbols, shared object, manual page, install and uninstall, packages: checked
@@ -17,7 +17,7 @@ ARCHIVE = target/staticlib/libsmb3seal.a
 PRIMITIVES = target/staticlib/libtest_primitives.a
 BUILD = target/c
 
-all: dist/libsmb3seal.a dist/smb3seal.h dist/smb3seal_text.h dist/smb3seal.3
+all: dist/libsmb3seal.a dist/smb3seal.h dist/smb3seal_text.h dist/smb3seal.3 dist/smb3seal-replay dist/smb3seal-replay.1
 
 # rt decides by itself what has to be proved again, and runs its own jobs beside each other.
 RATTLE := crates.txt $(shell find crates -name '*.rt' -o -name '*.antt')
@@ -28,6 +28,21 @@ target/staticlib/lib%.a: $(RATTLE)
 	@echo "proving and building $@ (from nothing some minutes, after rt ci seconds)"
 	@rt staticlib $* > target/$*.log 2>&1 || { cat target/$*.log; exit 1; }
 	@touch $@
+
+# The program that replays lab traces: rt proves, links and tries it.
+target/bin/replay: $(RATTLE)
+	@mkdir -p target
+	@echo "proving and building $@"
+	@rt check replay > target/replay.log 2>&1 || { cat target/replay.log; exit 1; }
+	@touch $@
+
+dist/smb3seal-replay: target/bin/replay
+	@mkdir -p dist
+	cp $< $@
+
+dist/%.1: packaging/%.1
+	@mkdir -p dist
+	cp $< $@
 
 dist/libsmb3seal.a: $(ARCHIVE)
 	@mkdir -p dist

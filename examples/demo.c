@@ -1,7 +1,8 @@
 /*
- * demo [ccm]: the session that Microsoft published in "SMB 3.1.1 Encryption in Windows 10", from negotiate to an opened READ
- * response: appendix A.1 (AES-128-GCM), or with `ccm` appendix A.2 (AES-128-CCM). What the library computes is compared with what is
- * published, and the exit status is 1 if anything differs.
+ * demo [ccm [TRACE]]: the session that Microsoft published in "SMB 3.1.1 Encryption in Windows 10", from negotiate to an opened READ
+ * response: appendix A.1 (AES-128-GCM), or with `ccm` appendix A.2 (AES-128-CCM; any other word is A.1). What the library computes is
+ * compared with what is published, and the exit status is 1 if anything differs. The session is recorded as a lab trace, and written to
+ * the file TRACE for smb3seal-replay.
  */
 #include <smb3seal.h>
 #include <smb3seal_text.h>
@@ -186,6 +187,52 @@ static void damage(const struct session *s, const uint8_t *keys)
     compared++;
 }
 
+/* ---- the session as a lab trace */
+
+enum { TRACE_ROOM = 4096 };
+
+static uint32_t record(uint32_t kind, const char *what, struct bytes payload, uint8_t *trace, size_t *at)
+{
+    return smb3seal_trace_record(kind, strstr(what, "response") != NULL, payload.at, payload.len, trace, TRACE_ROOM, at);
+}
+
+/* What passed, in its order: setup, then the lab session, then the sealed messages. The session's record holds its key. */
+static uint32_t record_session(const struct session *s, uint8_t *trace, size_t *at)
+{
+    uint8_t lab[SMB3SEAL_TRACE_SESSION_BYTES];
+    for (int i = 0; i < 8; i++) lab[i] = (uint8_t)(s->id >> (56 - 8 * i));
+    memcpy(lab + 8, derivations[s->derivation].material.at, SMB3SEAL_KEY_BYTES);
+    uint32_t number = smb3seal_trace_head(SMB3SEAL_TRACE_EDITION, s->dialect, s->cipher, trace, TRACE_ROOM, at);
+    for (const struct fold *f = folds + s->fold; number == SMB3SEAL_DONE && f < folds + s->fold + s->folds; f++) {
+        uint32_t kind = strstr(f->what, "negotiate") != NULL ? SMB3SEAL_TRACE_NEGOTIATE : SMB3SEAL_TRACE_SETUP;
+        number = record(kind, f->what, f->message, trace, at);
+    }
+    if (number == SMB3SEAL_DONE)
+        number = record(SMB3SEAL_TRACE_SESSION, "", (struct bytes){lab, sizeof lab}, trace, at);
+    for (const struct transform *t = transforms + s->transform; number == SMB3SEAL_DONE && t < transforms + s->transform + s->transforms; t++)
+        number = record(SMB3SEAL_TRACE_SEALED, t->what, t->message, trace, at);
+    return number;
+}
+
+static void show_trace(const struct session *s, const char *path)
+{
+    static const char *const kinds[] = {"negotiate", "session setup", "sealed", "lab session"};
+    uint8_t trace[TRACE_ROOM];
+    size_t end = 0, at = SMB3SEAL_TRACE_HEAD_BYTES, payload = 0, payload_len = 0;
+    uint32_t kind = 0, from_server = 0, records = 0;
+    chapter("7. The session as a lab trace, which smb3seal-replay replays; it holds the session key");
+    uint32_t number = record_session(s, trace, &end);
+    printf("   recorded: %s, %zu bytes\n", smb3seal_text(number), end);
+    while ((number = smb3seal_trace_read(trace, end, &at, &kind, &from_server, &payload, &payload_len)) == SMB3SEAL_DONE && payload_len > 0)
+        printf("   %2u  %-14s from the %s, %zu bytes at %zu\n", (unsigned)records++, kinds[kind], from_server ? "server" : "client",
+               payload_len, payload);
+    if (number != SMB3SEAL_DONE || at != end || records != s->folds + 1 + s->transforms) different++;
+    compared++;
+    FILE *file = path != NULL ? fopen(path, "wb") : NULL;
+    if (path != NULL && (file == NULL || fwrite(trace, 1, end, file) != end)) different++;
+    if (file != NULL && fclose(file) != 0) different++;
+}
+
 int main(int argc, char **argv)
 {
     const struct session *s = &sessions[argc > 1 && strcmp(argv[1], "ccm") == 0];
@@ -198,6 +245,7 @@ int main(int argc, char **argv)
     exchange(s, keys, message);
     show_fields(message);
     damage(s, keys);
+    show_trace(s, argc > 2 ? argv[2] : NULL);
     printf("\n%u comparisons, %u differ\n", compared, different);
     return different == 0 ? 0 : 1;
 }

@@ -20,6 +20,13 @@
  *     smb3seal_seal            a message made ready to send
  *     smb3seal_open            a received message decrypted, if every check holds
  *
+ * For support, what passes on a connection can be recorded as a lab trace, which smb3seal-replay replays:
+ *
+ *     smb3seal_trace_head       the head of a trace, written
+ *     smb3seal_trace_record     a record behind it
+ *     smb3seal_trace_read_head  the head, read
+ *     smb3seal_trace_read       a record, read
+ *
  * smb3seal_connection_derive, smb3seal_connection_seal and smb3seal_connection_open are the same three for a program that has its
  * connection as a struct.
  *
@@ -33,11 +40,11 @@
  *
  * - A buffer is a pointer and a length in bytes, and may have any alignment. A table is a pointer to its first record and the number of
  *   records. No pointer may be null, also where the length is 0.
- * - Buffers and table of one call do not overlap, a lent number (counter, headers, folded) lies in none of them, and each pointer has
+ * - Buffers and table of one call do not overlap, a lent number (counter, headers, folded, at) lies in none of them, and each pointer has
  *   as many bytes or records behind it as its length says. The library cannot check this, nor that a counter value is new under its
  *   key, nor that a table is the one that the call before left.
  * - Each function but smb3seal_table_find returns SMB3SEAL_DONE (0), or the number of the one reason for which it refused. After a
- *   refusal every byte and every number that was lent is as it was: message, table, counter, headers, folded, chain, keys.
+ *   refusal every byte and every number that was lent is as it was: message, table, counter, headers, folded, chain, keys, trace.
  * - Where several reasons apply, SMB3SEAL_BAD_LENGTH comes first and then the lowest number wins; but 29 stands between 5 and 6, and the
  *   walk over the headers of a compounded message ends at the first header that breaks a rule.
  *
@@ -71,9 +78,9 @@ extern "C" {
  */
 
 #define SMB3SEAL_VERSION_MAJOR 0
-#define SMB3SEAL_VERSION_MINOR 5
+#define SMB3SEAL_VERSION_MINOR 6
 #define SMB3SEAL_VERSION_PATCH 0
-#define SMB3SEAL_VERSION "0.5.0"
+#define SMB3SEAL_VERSION "0.6.0"
 
 /* ---- dialects and ciphers, as MS-SMB2 numbers them */
 
@@ -183,6 +190,9 @@ extern "C" {
 
 /* Opening, with GCM alone. The sender breaks a rule of MS-SMB2: as on 1 to 16, a server disconnects, and a client uses nothing of it. */
 #define SMB3SEAL_DIRTY_NONCE 29 /* under GCM one of the last four bytes of the Nonce field (32..36) is not 0; tested after 5 and before 6 */
+
+/* Lab traces. Reading: the trace is damaged or cut off from this place on. Writing: a fault of the program, or no room is left. */
+#define SMB3SEAL_UNREADABLE 36 /* no head or record of a lab trace that a reader reads, or the room does not hold it */
 
 /* Lengths that are fixed. A fault of the program, on every dialect. */
 #define SMB3SEAL_BAD_LENGTH 40 /* a key is not 16, a chain value not 64, or the place for the keys not 64 bytes long */
@@ -456,6 +466,81 @@ uint32_t smb3seal_table_seal(struct smb3seal_session *table, size_t table_len, s
  */
 uint32_t smb3seal_table_open(const struct smb3seal_session *table, size_t table_len, struct smb3seal_connection connection,
                              uint8_t *message, size_t message_len, uint64_t *headers);
+
+/*
+ * ---- lab traces
+ *
+ * A lab trace is a file of what passed on one connection: a head with its dialect and cipher, then records. A program that owns the
+ * socket records the messages in the order in which they passed, and for each session whose messages are to be opened in the lab, where
+ * its setup is done, one record with its id and its key. The trace then holds the session's key: whoever has it opens every recorded
+ * message, and can make new ones. Record in a lab alone, with accounts made for it, and keep and delete a trace as you would the key.
+ *
+ * The calls work on a buffer that the program reads from a file or writes to one, of any length. A record's place is counted from the
+ * start of the trace.
+ */
+
+#define SMB3SEAL_TRACE_EDITION 1               /* of the format that is written */
+#define SMB3SEAL_TRACE_HEAD_BYTES 4            /* a trace's head, and the head before each payload */
+#define SMB3SEAL_TRACE_LONGEST_PAYLOAD 1048628 /* bytes of a payload; the shortest has 1 */
+#define SMB3SEAL_TRACE_SESSION_BYTES 24        /* the payload of a lab session */
+
+#define SMB3SEAL_TRACE_NEGOTIATE 0 /* a negotiate request or response */
+#define SMB3SEAL_TRACE_SETUP 1     /* a session setup request or response */
+#define SMB3SEAL_TRACE_SEALED 2    /* a sealed message, as it passed */
+#define SMB3SEAL_TRACE_SESSION 3   /* a session for the lab: its SessionId, 8 bytes with the high byte first, and its key of 16 bytes */
+
+/*
+ * Writes the head of a trace at its start.
+ *
+ * edition  SMB3SEAL_TRACE_EDITION
+ * dialect  SMB3SEAL_DIALECT_.., or any number
+ * cipher   SMB3SEAL_CIPHER_.., or any number up to 255
+ * trace    writes: SMB3SEAL_TRACE_HEAD_BYTES at its start; the rest stays as it is
+ * at       writes: the place behind them, which is that of the first record
+ *
+ * Answers 0, or 36.
+ */
+uint32_t smb3seal_trace_head(uint8_t edition, uint16_t dialect, uint16_t cipher, uint8_t *trace, size_t trace_len, size_t *at);
+
+/*
+ * Writes a record.
+ *
+ * kind         SMB3SEAL_TRACE_..
+ * from_server  0 for a message from the client, anything else for one from the server
+ * payload      reads: 1 to SMB3SEAL_TRACE_LONGEST_PAYLOAD bytes, of a lab session SMB3SEAL_TRACE_SESSION_BYTES
+ * trace        writes: a head and the payload from the place `at` on; the rest stays as it is
+ * at           reads the record's place, and writes the place behind it, which is that of the next
+ *
+ * Answers 0, or 36.
+ */
+uint32_t smb3seal_trace_record(uint32_t kind, uint32_t from_server, const uint8_t *payload, size_t payload_len, uint8_t *trace,
+                               size_t trace_len, size_t *at);
+
+/*
+ * Reads the head of a trace. The first record is behind it, at SMB3SEAL_TRACE_HEAD_BYTES.
+ *
+ * trace    reads: the whole trace, or its start
+ * dialect  writes: the connection's dialect
+ * cipher   writes: the connection's cipher
+ *
+ * Answers 0, or 36.
+ */
+uint32_t smb3seal_trace_read_head(const uint8_t *trace, size_t trace_len, uint16_t *dialect, uint16_t *cipher);
+
+/*
+ * Reads the record at a place. Where no byte is left it answers 0 and writes a payload_len of 0, which no record has, and nothing else.
+ *
+ * trace        reads: the whole trace, with its head
+ * at           reads the record's place, and writes that of the next
+ * kind         writes: SMB3SEAL_TRACE_..
+ * from_server  writes: 1 for a message from the server, 0 for one from the client
+ * payload      writes: the place of the payload
+ * payload_len  writes: its length
+ *
+ * Answers 0, or 36.
+ */
+uint32_t smb3seal_trace_read(const uint8_t *trace, size_t trace_len, size_t *at, uint32_t *kind, uint32_t *from_server,
+                             size_t *payload, size_t *payload_len);
 
 #ifdef __cplusplus
 }

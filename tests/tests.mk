@@ -5,7 +5,8 @@ TEST_HEADERS = $(wildcard tests/*.h) include/smb3seal.h $(BUILD)/smb3_vectors.h
 SHARED = check openssl_aead model call messages generate guard table_model table_call table_generate
 KEY_TESTS = vectors_test numbers_test lengths_test walk_test bits_test random_test guard_test
 TABLE_TESTS = table_calls_test table_numbers_test table_test table_guard_test
-LIBRARY_TESTS = $(KEY_TESTS) sign_test $(TABLE_TESTS)
+TRACE_TESTS = trace_test
+LIBRARY_TESTS = $(KEY_TESTS) sign_test $(TABLE_TESTS) $(TRACE_TESTS)
 
 # Each program twice: as it is, and with the sanitizers.
 $(BUILD)/plain/%.o: tests/%.c $(TEST_HEADERS)
@@ -32,8 +33,9 @@ VALGRIND_CASES = 10000
 VALGRIND_LISTS = 2000
 
 # Each program once more, with a library that can be made wrong.
-EXPORTS = derive fold fold_response seal open sign verify table_find table_add table_remove table_seal table_open
-WRONG = $(BUILD)/plain/mutants.o $(BUILD)/plain/sign_mutants.o $(BUILD)/plain/table_mutants.o
+EXPORTS = derive fold fold_response seal open sign verify table_find table_add table_remove table_seal table_open \
+    trace_head trace_record trace_read_head trace_read
+WRONG = $(BUILD)/plain/mutants.o $(BUILD)/plain/sign_mutants.o $(BUILD)/plain/table_mutants.o $(BUILD)/plain/trace_mutants.o
 MUTANTS = $(LIBRARY_TESTS:%=$(BUILD)/mutants/%)
 $(MUTANTS): $(BUILD)/mutants/%: $(BUILD)/plain/%.o $(SHARED:%=$(BUILD)/plain/%.o) $(WRONG) $(ARCHIVE)
 	@mkdir -p $(@D)
@@ -42,13 +44,14 @@ $(MUTANTS): $(BUILD)/mutants/%: $(BUILD)/plain/%.o $(SHARED:%=$(BUILD)/plain/%.o
 outside: setup-test
 	@$(MAKE) --silent --no-print-directory NO_SETUP=1 outside-tests
 
-outside-tests: consistency examples packaging rust symbols programs valgrind mutants tshark
+outside-tests: consistency examples packaging rust symbols programs replay valgrind mutants tshark
 
 # Pages, lists and vectors agree with each other and with the tree.
 consistency:
 	@rt fmt --check
 	@scripts/vectors --check
 	@scripts/test-with "the file that the exchange must write" python3-cryptography -- scripts/exchange --check
+	@scripts/test-with "the trace of the gate, and its lines" python3-cryptography -- scripts/lab-trace --check
 	@scripts/numbers --check
 	@scripts/docs-check
 	@scripts/crates-picture --check
@@ -67,11 +70,17 @@ run-programs: $(PROGRAMS)
 	@for t in $(filter-out %sanitized/random_test %sanitized/table_test,$(PROGRAMS)) \
 	    "$(BUILD)/sanitized/random_test 2 20000" "$(BUILD)/sanitized/table_test 2 20000"; do $$t || exit 1; done
 
+# The program that replays traces, beside one in Python.
+REPLAYED = 20000
+replay: dist/smb3seal-replay
+	@scripts/test-with "the replay beside one in Python" python3-cryptography -- tests/replay_check.py $< $(REPLAYED)
+
 valgrind:
 	@scripts/test-with "the C tests under valgrind" libssl-dev valgrind -- $(AGAIN) run-valgrind
 
-run-valgrind: $(addprefix $(BUILD)/plain/,vectors_test walk_test lengths_test random_test table_test)
-	@for t in vectors_test walk_test lengths_test "random_test 1 $(VALGRIND_CASES)" "table_test 1 $(VALGRIND_LISTS)"; do \
+run-valgrind: $(addprefix $(BUILD)/plain/,vectors_test walk_test lengths_test random_test table_test trace_test)
+	@for t in vectors_test walk_test lengths_test "random_test 1 $(VALGRIND_CASES)" "table_test 1 $(VALGRIND_LISTS)" \
+	    "trace_test 1 $(VALGRIND_LISTS)"; do \
 	    printf 'valgrind '; $(VALGRIND) $(BUILD)/plain/$$t || exit 1; done
 
 mutants:
@@ -81,6 +90,7 @@ run-mutants: $(MUTANTS)
 	@scripts/mutants $(BUILD)/mutants tests/mutants.c vectors_test walk_test lengths_test bits_test guard_test numbers_test
 	@scripts/mutants $(BUILD)/mutants tests/sign_mutants.c sign_test guard_test
 	@scripts/mutants $(BUILD)/mutants tests/table_mutants.c table_calls_test table_guard_test table_numbers_test
+	@scripts/mutants $(BUILD)/mutants tests/trace_mutants.c trace_test
 
 tshark:
 	@scripts/test-with "tshark on a capture" libssl-dev tshark -- $(AGAIN) run-tshark
@@ -118,5 +128,5 @@ coverage: setup-test
 	scripts/archive-coverage $(ARCHIVE) $(BUILD)/coverage $(BUILD)/plain/vectors_test $(BUILD)/plain/lengths_test \
 	    "$(BUILD)/plain/random_test 1 $(VALGRIND_CASES)" "$(BUILD)/plain/table_test 1 $(VALGRIND_LISTS)"
 
-.PHONY: outside outside-tests consistency symbols programs valgrind mutants tshark run-programs run-valgrind run-mutants run-tshark
+.PHONY: outside outside-tests consistency symbols programs replay valgrind mutants tshark run-programs run-valgrind run-mutants run-tshark
 .PHONY: fuzz samba coverage

@@ -74,6 +74,39 @@ extern "C" {
         headers: *mut u64,
     ) -> u32;
 
+    pub fn smb3seal_trace_head(
+        edition: u8,
+        dialect: u16,
+        cipher: u16,
+        trace: *mut u8,
+        trace_len: usize,
+        at: *mut usize,
+    ) -> u32;
+    pub fn smb3seal_trace_record(
+        kind: u32,
+        from_server: u32,
+        payload: *const u8,
+        payload_len: usize,
+        trace: *mut u8,
+        trace_len: usize,
+        at: *mut usize,
+    ) -> u32;
+    pub fn smb3seal_trace_read_head(
+        trace: *const u8,
+        trace_len: usize,
+        dialect: *mut u16,
+        cipher: *mut u16,
+    ) -> u32;
+    pub fn smb3seal_trace_read(
+        trace: *const u8,
+        trace_len: usize,
+        at: *mut usize,
+        kind: *mut u32,
+        from_server: *mut u32,
+        payload: *mut usize,
+        payload_len: *mut usize,
+    ) -> u32;
+
     pub fn smb3seal_table_find(table: *const Session, table_len: usize, session_id: u64) -> usize;
     pub fn smb3seal_table_add(
         table: *mut Session,

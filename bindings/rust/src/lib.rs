@@ -8,6 +8,8 @@
 //! With a session [`Table`] the library keeps keys and counters and picks the right ones. Under one key ([`seal`], [`open`]) that is
 //! the caller's part; a [`Sealer`] keeps one counter.
 //!
+//! For support, a [`TraceWriter`] records what passes on a connection, and a [`TraceReader`] reads it.
+//!
 //! Each call answers, or refuses with the one number that says why. After a refusal every byte and every number that was lent is
 //! as it was.
 //!
@@ -47,12 +49,14 @@ mod refusal;
 mod sealer;
 mod signing;
 mod table;
+mod trace;
 
 pub use connection::{Connection, Role};
 pub use refusal::Refusal;
 pub use sealer::Sealer;
 pub use signing::{sign, verify};
 pub use table::{Login, Opened, Session, Sessions, Table};
+pub use trace::{TraceKind, TraceReader, TraceRecord, TraceWriter};
 
 use std::fmt;
 

@@ -1,5 +1,6 @@
 // The calls from C: numbers and byte buffers. What each answers and leaves behind is said by include/smb3seal.h in words.
 mod table;
+mod traces;
 
 ghost use Rattle.protocol.specs.Preauth.{negotiateMessage, setupRequest, setupResponse};
 ghost use Rattle.protocol.specs.Calls.{derivation, folding, sealingUnder, openingUnder, onlyMessage, messageAndCounter, onlyChain, onlyKeys};

@@ -1,0 +1,4 @@
+pub mod StepLaws
+pub mod TurnLaws
+pub mod Examples
+pub mod LineLaws

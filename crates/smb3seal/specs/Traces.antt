@@ -1,0 +1,28 @@
+-- What the calls from C with a lab trace promise: the number n, and what each lent place held before and holds afterwards (primed).
+-- Assumes nothing.
+use mathlib.Core.Path.{_≡_}
+use mathlib.Core.Bool.{Bool}
+use Prim.Native.Nat.{ℕ}
+use lib.ListN.{length}
+use Rattle.trace.specs.Format.{Bytes, FileReading, Reading, readingNumber}
+use Rattle.trace.specs.Answers.{writeAnswer, roomAfter, writtenNumber, placeBehind, fileNumber, dialectTo, cipherTo}
+use Rattle.trace.specs.Answers.{kindTo, fromServerTo, payloadTo, lengthTo, nextTo}
+
+-- bytes b, that are writable or not, for place p of the room
+pub record WritesTrace (ok : Bool) (b room : Bytes) (p n : ℕ) (room′ : Bytes) (at at′ : ℕ) : Type 0 where
+  pub number : n ≡ writtenNumber (writeAnswer ok b (length room) p)
+  pub bytes : room′ ≡ roomAfter ok b room p
+  pub place : at′ ≡ placeBehind (writeAnswer ok b (length room) p) at
+
+pub record ReadsHead (r : FileReading) (n dialect dialect′ cipher cipher′ : ℕ) : Type 0 where
+  pub number : n ≡ fileNumber r
+  pub its-dialect : dialect′ ≡ dialectTo r dialect
+  pub its-cipher : cipher′ ≡ cipherTo r cipher
+
+pub record ReadsRecord (r : Reading) (n at at′ kind kind′ from from′ payload payload′ len len′ : ℕ) : Type 0 where
+  pub number : n ≡ readingNumber r
+  pub its-place : at′ ≡ nextTo r at
+  pub its-kind : kind′ ≡ kindTo r kind
+  pub its-direction : from′ ≡ fromServerTo r from
+  pub its-payload : payload′ ≡ payloadTo r payload
+  pub its-length : len′ ≡ lengthTo r len

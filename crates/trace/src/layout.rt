@@ -1,0 +1,33 @@
+// What an edition fixes, and the rule that reader and writer share.
+ghost use mathlib.Core.Path.{_≡_};
+ghost use Rattle.trace.specs.Format.{Edition, editionOf, admitted};
+ghost use Rattle.trace.specs.Layouts.{IsEdition};
+
+// The weight of the length's lowest bit, below which are the zero bits, and the longest payload.
+pub struct Layout {
+    pub unit: usize,
+    pub longest: usize,
+}
+
+// Of an edition that is not known no payload is readable.
+pub fn layout_of(edition: u8) -> Layout
+    ensures { λ r. ⌜ IsEdition r (editionOf edition) ⌝ }
+{
+    if edition == 1 {
+        return Layout {
+            unit: 128,
+            longest: 1048628,
+        };
+    }
+    Layout {
+        unit: 1,
+        longest: 0,
+    }
+}
+
+// Whether a record of this kind may have a payload of n bytes.
+pub fn admits(l: Layout, kind: usize, n: usize) -> bool
+    ensures { λ r. ⌜ ((e : Edition) → IsEdition l e → r ≡ admitted e kind n) ⌝ }
+{
+    (kind <= 3) & ((1 <= n) & ((n <= l.longest) & (!(kind == 3) | (n == 24))))
+}

@@ -1,0 +1,4 @@
+pub mod RoundTrip
+pub mod Lists
+pub mod Apart
+pub mod Traces

@@ -1,0 +1,33 @@
+-- The statements about traces, all together.
+-- Assumes nothing.
+use mathlib.Core.List.{_++_}
+use mathlib.Core.Path.{sym, ap, _∙_}
+use Rattle.trace.specs.Format.{editionOf}
+use Rattle.trace.specs.Records.{recordBytes, writable, fileHeadBytes}
+use Rattle.trace_theorems.specs.Traces.{Traces}
+use Rattle.trace_theorems.proofs.RoundTrip.{sound, reads, read-writable}
+use Rattle.trace_theorems.proofs.Lists.{calls-read, whole-file, file-read, head-back, read-written, all-read-writable, other-edition}
+use Rattle.trace_theorems.proofs.Apart.{same-readable, same-record}
+
+pub traces : Traces
+traces =
+    record {
+      writes-what-is-read =
+          record {
+            record-read = λ n r rest w. let q = reads (editionOf n) (sound n) r rest w in (q .is-readable, q .same);
+            record-written = λ n r rest q same. ap (writable (editionOf n)) (sym same) ∙ read-writable (editionOf n) (recordBytes (editionOf n) r ++ rest) q;
+            head-read = λ n d c rest hn hd k. file-read n d c rest k hn hd .0;
+            head-written = λ n d c rest t. head-back (fileHeadBytes n d c ++ rest) n d c t;
+          };
+      writing-then-reading =
+          record {
+            calls-read = calls-read;
+            file-read = λ n d c rs hn hd k w. whole-file n d c rs k hn hd w;
+            written-again = λ n s o. (read-written n o, all-read-writable n s);
+          };
+      reading-apart =
+          record {
+            other-edition = other-edition;
+            front-enough = λ n m s four holds. (same-readable (editionOf n) m s four holds, same-record (editionOf n) m s four holds);
+          };
+    }

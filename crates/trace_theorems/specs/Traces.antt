@@ -1,0 +1,54 @@
+-- What the reader and the writer of a trace are to each other: RULES 16.
+-- Assumes nothing.
+use mathlib.Core.Path.{_≡_}
+use mathlib.Core.Bool.{true, false}
+use mathlib.Core.List.{List, [], _∷_, _++_}
+use Prim.Native.Nat.{ℕ, _<_, _≤_}
+use lib.ListN.{length, take, drop}
+use Rattle.trace.specs.Format.{Bytes, editionOf, known, headIn, editionIn, fileHead, badFileHead, readFileHead, goodHead, sizeIn, readable}
+use Rattle.trace.specs.Records.{Record, recordIn, readAll, recordBytes, writable, recordsBytes, allWritable, headWritable, fileHeadBytes, Room, writeList, accepted}
+
+-- all are bytes
+pub data Octets : Bytes → Type 0 where
+  none : Octets []
+  more : {x : ℕ} {xs : Bytes} → x < 256 → Octets xs → Octets (x ∷ xs)
+
+-- a file of these records
+abbrev pub fileOf : ℕ → ℕ → ℕ → List Record → Bytes
+fileOf n d c rs = fileHeadBytes n d c ++ recordsBytes (editionOf n) rs
+
+-- "The writer answers 36 exactly to a file head or record that the reader would not read": by the contracts of the code it writes what is
+-- writable where the room holds it. That is exactly what the reader reads back, whatever stands behind it
+pub record WritesWhatIsRead : Type 0 where
+  pub record-read : (n : ℕ) (r : Record) (rest : Bytes) → let e = editionOf n in let s = recordBytes e r ++ rest in
+      writable e r ≡ true → (readable e s ≡ true) × (recordIn e s ≡ r)
+  pub record-written : (n : ℕ) (r : Record) (rest : Bytes) → let e = editionOf n in let s = recordBytes e r ++ rest in
+      readable e s ≡ true → recordIn e s ≡ r → writable e r ≡ true
+  pub head-read : (n d c : ℕ) (rest : Bytes) → n < 256 → d < 65536 → headWritable n c ≡ true → readFileHead (fileHeadBytes n d c ++ rest) ≡ fileHead n d c
+  pub head-written : (n d c : ℕ) (rest : Bytes) → readFileHead (fileHeadBytes n d c ++ rest) ≡ fileHead n d c → headWritable n c ≡ true
+
+-- "Writing then reading gives the same records"
+pub record WritingThenReading : Type 0 where
+  -- every list of calls of the writer, refused ones included, into any room from any place on: the reader finds the records that were not
+  -- refused, and nothing else
+  pub calls-read : (n : ℕ) (rs : List Record) (w : Room) → w .at ≤ length (w .bytes) → let e = editionOf n in let after = writeList e rs w in
+      readAll e (drop (w .at) (take (after .at) (after .bytes))) ≡ record { records = accepted e rs w; rest = [] }
+  -- every file of records that the writer accepts
+  pub file-read : (n d c : ℕ) (rs : List Record) → n < 256 → d < 65536 → headWritable n c ≡ true → allWritable (editionOf n) rs ≡ true
+      → (readFileHead (fileOf n d c rs) ≡ fileHead n d c) × (readAll (editionOf n) (drop 4 (fileOf n d c rs)) ≡ record { records = rs; rest = [] })
+  -- and of any bytes: what was read, written again, and what is left are those bytes; the writer accepts every record that was read
+  pub written-again : (n : ℕ) (s : Bytes) → Octets s → let c = readAll (editionOf n) s in
+      (recordsBytes (editionOf n) (c .records) ++ c .rest ≡ s) × (allWritable (editionOf n) (c .records) ≡ true)
+
+-- a reader that gets a file in pieces
+pub record ReadingApart : Type 0 where
+  -- a file of another edition is refused by its edition byte
+  pub other-edition : (f : Bytes) → known (editionIn (headIn f)) ≡ false → readFileHead f ≡ badFileHead
+  -- of the bytes s from a record on, the first m are enough: four, and those of the record where its head is good
+  pub front-enough : (n m : ℕ) (s : Bytes) → let e = editionOf n in 4 ≤ m → (goodHead e s ≡ true → sizeIn e s ≤ m)
+      → (readable e (take m s) ≡ readable e s) × (readable e s ≡ true → recordIn e (take m s) ≡ recordIn e s)
+
+pub record Traces : Type 0 where
+  pub writes-what-is-read : WritesWhatIsRead
+  pub writing-then-reading : WritingThenReading
+  pub reading-apart : ReadingApart

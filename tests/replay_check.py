@@ -1,0 +1,159 @@
+#!/usr/bin/env python3
+"""replay_check PROGRAM [TRACES [SEED]]: the program smb3seal-replay beside tests/trace_model.py, on traces that are random, damaged and cut.
+
+Every cut of a small trace, then random ones: records of every kind and direction, at lengths around each limit; bits changed, bytes taken
+out, put in or cut off. Each trace is given as a file or on the standard input, and the lines are compared. The first difference ends it.
+"""
+import os
+import random
+import subprocess
+import sys
+import tempfile
+
+import trace_model as model
+
+DIALECTS = (0x0311, 0x0311, 0x0311, 0x0300, 0x0302, 0x0210, 0)
+CIPHERS = (1, 2, 1, 2, 0, 3, 255)
+LENGTHS = (1, 24, 52, 53, 63, 64, 65, 100, 116, 180)
+
+
+def message(rng, length):
+    """A setup message: more often than not a response that asks for more."""
+    out = bytearray(rng.randbytes(length))
+    if rng.random() < 0.6 and length >= 12:
+        out[8:12] = (0xC0000016).to_bytes(4, "little")
+    return bytes(out)
+
+
+def inner(rng, identity):
+    """Inner headers, mostly right."""
+    out = b""
+    for n in range(rng.choice((1, 1, 1, 2, 3))):
+        header = bytearray(64 + rng.choice((0, 8, 24)))
+        header[:4] = b"\xfeSMB" if rng.random() < 0.97 else b"\xfdSMB"
+        related = rng.random() < (0.5 if n else 0.05)
+        header[16:20] = (4 * related).to_bytes(4, "little")
+        named = identity if rng.random() < 0.9 else identity ^ 1
+        header[40:48] = named.to_bytes(8, "little")
+        if rng.random() < 0.1:
+            header[12:14], header[24:32], header[40:48] = b"\x12\0", b"\xff" * 8, bytes(8)
+        out += bytes(header)
+        last = len(header)
+    if len(out) > last:
+        whole = bytearray(out)
+        whole[20:24] = (rng.choice((64, 72, 88, 0, 65, len(out) - last, 1 << 31))).to_bytes(4, "little")
+        out = bytes(whole)
+    return out if rng.random() < 0.95 else out[: rng.randrange(len(out) + 1)]
+
+
+def sealed(rng, lab, from_server):
+    if not lab.table or not lab.encrypts() or rng.random() < 0.15:
+        return message(rng, rng.choice(LENGTHS))
+    identity = rng.choice(list(lab.table))
+    nonce = rng.randbytes(12) + (bytes(4) if rng.random() < 0.9 else rng.randbytes(4))
+    size = None if rng.random() < 0.95 else rng.randrange(300)
+    m = bytearray(lab.sealed(identity, from_server, inner(rng, identity), nonce, size))
+    if rng.random() < 0.15:
+        m[rng.randrange(len(m))] ^= 1 << rng.randrange(8)
+    return bytes(m) or b"\0"
+
+
+def random_record(rng, lab):
+    """A record that can be read, and what it does to the lab."""
+    kind = rng.choice((0, 1, 1, 2, 2, 2, 3, 3))
+    from_server = rng.random() < 0.5
+    if kind == model.SESSION:
+        payload = rng.choice((rng.randrange(20), rng.getrandbits(64))).to_bytes(8, "big") + rng.randbytes(16)
+    elif kind == model.SEALED:
+        payload = sealed(rng, lab, from_server)
+    else:
+        payload = message(rng, rng.choice(LENGTHS))
+    if rng.random() < 0.004 and kind != model.SESSION:
+        payload = bytes(rng.choice((65535, 65536, 65537, 70000)))
+    if len(payload) <= model.HELD:
+        lab.step(kind, from_server, payload)
+    return model.record(kind, from_server, payload)
+
+
+def damaged(rng, trace):
+    out, at = bytearray(trace), rng.randrange(len(trace)) if trace else 0
+    how = rng.randrange(5)
+    if how == 0:
+        return bytes(out[:at])
+    if how == 1:
+        return bytes(out[:at] + out[at + rng.randrange(1, 9) :])
+    if how == 2:
+        return bytes(out[:at] + rng.randbytes(rng.randrange(1, 9)) + out[at:])
+    if how == 3:
+        return bytes(out) + rng.randbytes(rng.randrange(1, 6))
+    for _ in range(rng.randrange(1, 4)):
+        out[rng.randrange(len(out))] ^= 1 << rng.randrange(8)
+    return bytes(out)
+
+
+def random_trace(rng):
+    if rng.random() < 0.02:
+        return rng.randbytes(rng.randrange(40))
+    dialect, cipher = rng.choice(DIALECTS), rng.choice(CIPHERS)
+    lab, out = model.Lab(dialect, cipher), model.file_head(dialect, cipher, 1 if rng.random() < 0.97 else rng.randrange(256))
+    for _ in range(rng.choice((0, 1, 2, 5, 10, 24))):
+        out += random_record(rng, lab)
+    return damaged(rng, out) if rng.random() < 0.5 else out
+
+
+def small_trace():
+    record = model.record
+    session = record(3, False, (7).to_bytes(8, "big") + bytes(range(16)))
+    return model.file_head(0x0311, 2) + record(0, False, bytes(64)) + session + record(2, True, b"\xfdSMB" + bytes(50)) + record(1, True, b"x")
+
+
+def full_table():
+    out = model.file_head(0x0302, 1)
+    for n in range(1, 19):
+        out += model.record(3, n % 2 == 0, n.to_bytes(8, "big") + bytes([n] * 16))
+    return out
+
+
+def long_payloads():
+    """Long payloads: whole, then cut off, which prints the stop alone."""
+    whole = model.file_head(0x0311, 1) + model.record(0, True, bytes(1048628))
+    return [whole, whole[:-1], whole[:70000], whole + bytes(3), model.file_head(0x0311, 1) + model.record(2, False, bytes(65537)) + bytes(4)]
+
+
+def named_traces():
+    head = model.file_head(0x0311, 2)
+    yield from (b"", head[:1], head[:3], head, head + bytes(2), model.file_head(0x0311, 2, 2), model.file_head(0x0311, 2, 0))
+    small = small_trace()
+    yield from (small[:n] for n in range(len(small) + 1))
+    yield full_table()
+    yield from long_payloads()
+
+
+def lines(program, trace, path, by_name):
+    with open(path, "wb") as f:
+        f.write(trace)
+    if by_name:
+        return subprocess.run([program, path], stdin=subprocess.DEVNULL, capture_output=True).stdout.decode()
+    with open(path, "rb") as f:
+        return subprocess.run([program], stdin=f, capture_output=True).stdout.decode()
+
+
+def main():
+    program = os.path.abspath(sys.argv[1])
+    count, seed = (list(map(int, sys.argv[2:])) + [20000, 1][len(sys.argv) - 2 :])[:2]
+    rng, done, stopped, numbers = random.Random(seed), 0, 0, set()
+    with tempfile.TemporaryDirectory() as folder:
+        path = os.path.join(folder, "a.trace")
+        named = list(named_traces())
+        for number in range(count):
+            trace = named[number] if number < len(named) else random_trace(rng)
+            expected, got = model.replay(trace), lines(program, trace, path, number % 2 == 0)
+            if expected != got:
+                sys.exit(f"trace {number}, seed {seed}: {trace[:2000].hex()}\nexpected:\n{expected}\nwritten:\n{got}")
+            done, stopped = done + 1, stopped + ("stop" in got)
+            numbers |= {line.split(" ")[1] for line in got.splitlines() if not line.startswith("stop")}
+    answers = " ".join(sorted(numbers, key=lambda word: (word == "long", word.zfill(4))))
+    print(f"{done} traces replayed as tests/trace_model.py does, {stopped} of them stopped; answers: {answers}")
+
+
+main()
