@@ -54,6 +54,7 @@ consistency:
 	@scripts/test-with "the trace of the gate, and its lines" python3-cryptography -- scripts/lab-trace --check
 	@scripts/numbers --check
 	@scripts/docs-check
+	@scripts/edits-check
 	@scripts/crates-picture --check
 
 symbols: $(PRIMITIVES)
