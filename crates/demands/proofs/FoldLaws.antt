@@ -49,7 +49,7 @@ module _ (P : Primitives) where
       go true e =
           one m (ap (λ (b : Bool). cond b (m ∷ []) []) e) (fold-left v kind m l ∙ ap (λ (b : Bool). cond b (P .sha512 (v ++ m)) v) e)
       go false e = none (ap (λ (b : Bool). cond b (m ∷ []) []) e) (fold-left v kind m l ∙ ap (λ (b : Bool). cond b (P .sha512 (v ++ m)) v) e)
-  folds v (derivation dialect chain material) l = leaves v _ refl refl
+  folds v (derivation dialect cipher chain material) l = leaves v _ refl refl
   folds v (sealingUnder c key id) l = leaves v _ refl refl
   folds v (openingUnder c key id) l = leaves v _ refl refl
   folds v (signingUnder key) l = leaves v _ refl refl

@@ -29,6 +29,7 @@ pub record Held : Type 0 where
   pub id : ℕ
   pub guest : Bool
   pub anonymous : Bool
+  pub wide : Bool
   pub clientToServer : Bytes
   pub serverToClient : Bytes
 
@@ -39,6 +40,7 @@ held s =
       id = s .id;
       guest = s .guest;
       anonymous = s .anonymous;
+      wide = s .wide;
       clientToServer = s .keys .clientToServer;
       serverToClient = s .keys .serverToClient;
     }

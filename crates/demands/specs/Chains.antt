@@ -20,7 +20,7 @@ goesIn kind m = admitted m && statusAllows kind m
 -- the message that a call folds in, or none
 abbrev pub foldedInBy : Call → List Bytes
 foldedInBy (folding kind m) = cond (goesIn kind m) (m ∷ []) []
-foldedInBy (derivation dialect chain material) = []
+foldedInBy (derivation dialect cipher chain material) = []
 foldedInBy (sealingUnder c key id) = []
 foldedInBy (openingUnder c key id) = []
 foldedInBy (signingUnder key) = []
