@@ -12,7 +12,7 @@ use Rattle.protocol.specs.Calls.{onlyTable}
 use Rattle.protocol.specs.Sound.{Sound}
 use Rattle.protocol.specs.Suite.{suite}
 use Rattle.protocol.proofs.SuiteLaws.{suite-sound}
-use Rattle.demands.specs.Chains.{Among}
+use Rattle.demands.specs.Chains.{sessionChain, Among}
 use Rattle.demands.specs.Steps.{Step}
 use Rattle.demands.specs.Demand3.{Ends, endConnection, sessionAdded, madeAt, Premises, Seals, by-call, Opens, Demand3}
 use Rattle.demands.proofs.FoldLaws.{chains-agree, same-value}
@@ -32,17 +32,17 @@ module _ (P : Primitives) (sound : Sound P) (e : Ends) (h : Premises P e) where
   abbrev record-at : Role → Session
   record-at r = newRecord (P .kdf) (sessionAdded P e r)
 
+  same-chain : sessionChain P (e .chainCalls client) ≡ sessionChain P (e .chainCalls server)
+  same-chain = same-value P (sound .hash-length) (e .chainCalls client) (e .chainCalls server) (h .same-messages)
+
+  abbrev bytes : ℕ
+  bytes = cipherKeyBytes (isWide 0x0311 (e .cipher))
+
   -- both ends hold the same cipher keys
   cipher-keys : (q : Role) → sealingKey q ((record-at client) .keys) ≡ sealingKey q ((record-at server) .keys)
   unfolding derivedKeys
-  cipher-keys q = go q
-    where
-      chain = same-value P (sound .hash-length) (e .chainCalls client) (e .chainCalls server) (h .same-messages)
-      bytes = cipherKeyBytes (isWide 0x0311 (e .cipher))
-
-      go : (q : Role) → sealingKey q ((record-at client) .keys) ≡ sealingKey q ((record-at server) .keys)
-      go client = λ i. P .kdf bytes (h .same-key i) smbC2SCipherKey (chain i)
-      go server = λ i. P .kdf bytes (h .same-key i) smbS2CCipherKey (chain i)
+  cipher-keys client = λ i. P .kdf bytes (h .same-key i) smbC2SCipherKey (same-chain i)
+  cipher-keys server = λ i. P .kdf bytes (h .same-key i) smbS2CCipherKey (same-chain i)
 
   same-keys : (r q : Role) → sealingKey q ((record-at (other r)) .keys) ≡ sealingKey q ((record-at r) .keys)
   same-keys client q = sym (cipher-keys q)

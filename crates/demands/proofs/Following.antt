@@ -162,7 +162,7 @@ module _ (P : Primitives) where
     -- one clause for one call
     pub follows : (c : Call) (w : Lent) → c ≢ removing i → Present i (w .table) → Kept c w
     unfolding effect
-    follows (derivation dialect chain material) w h k = alone _ w refl
+    follows (derivation dialect cipher chain material) w h k = alone _ w refl
     follows (folding kind m) w h k = alone _ w refl
     follows (sealingUnder c key id) w h k = alone _ w refl
     follows (openingUnder c key id) w h k = alone _ w refl
