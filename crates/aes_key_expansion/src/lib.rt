@@ -111,6 +111,20 @@ pub fn expand_256(k0: [u8; 16], k1: [u8; 16]) -> [[u8; 16]; 15]
     let k13 = middle_key(&t, k11, k12);
     let k14 = next_key(&t, k12, k13, 0x40);
     [
-        k0, k1, k2, k3, k4, k5, k6, k7, k8, k9, k10, k11, k12, k13, k14,
+        k0,
+        k1,
+        k2,
+        k3,
+        k4,
+        k5,
+        k6,
+        k7,
+        k8,
+        k9,
+        k10,
+        k11,
+        k12,
+        k13,
+        k14,
     ]
 }
