@@ -1,8 +1,14 @@
--- The keys that the code takes: of 128 and of 256 bits (FIPS 197, 5, table 3; that of 192 bits is not among them).
+-- For contracts, apart from the text of FIPS 197: the keys that the code takes, and the array that holds the round keys of each.
 use mathlib.Core.Bool.{Bool, _||_}
-use Prim.Native.Nat.{ℕ}
+use mathlib.Core.List.{List, _++_}
+use Prim.Native.Nat.{ℕ, _-_}
 use lib.Dec.{eqb}
+use lib.ListN.{length, replicate}
 
--- a number of bytes
+-- keys have 128 or 256 bits: so many bytes (5, table 3, which has 192 bits too)
 unfoldable pub isKeyLength : ℕ → Bool
 isKeyLength n = eqb n 16 || eqb n 32
+
+-- round keys, filled up with zeros to fifteen, as many as the longest key has
+unfoldable pub fifteen : List (List ℕ) → List (List ℕ)
+fifteen keys = keys ++ replicate (15 - length keys) (replicate 16 0)
