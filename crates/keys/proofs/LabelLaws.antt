@@ -16,7 +16,7 @@ use Rattle.protocol.specs.Keys.{sessionKey, cipherMaterial, smbC2SCipherKey, sm
 use Rattle.protocol.specs.Keys.{derivedKeys}
 use Rattle.protocol.specs.Suite.{kdf}
 use Rattle.protocol.proofs.SuiteLaws.{kdf-is, suite-sound}
-use Rattle.keys.specs.declared.labels.Keys.{Keys}
+use Rattle.keys.specs.declared.Keys.{Keys}
 use Rattle.keys.specs.Reading.{stored}
 
 -- a key of 16 bytes out of the session key

@@ -13,7 +13,7 @@ use Rattle.octets.proofs.BlockLaws.{zeros-replaced}
 use Rattle.protocol.specs.Bytes.{Bytes}
 use Rattle.protocol.specs.Connection.{cipherKeyBytes}
 use Rattle.protocol.specs.Keys as rules
-use Rattle.keys.specs.declared.labels.Keys.{Keys}
+use Rattle.keys.specs.declared.Keys.{Keys}
 use Rattle.keys.specs.Reading.{stored, keysIn}
 
 -- the first n bytes of a place of so many bytes in all are s

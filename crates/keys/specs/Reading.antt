@@ -5,7 +5,7 @@ use lib.ListN.{take}
 use Rattle.octets.specs.Blocks.{zeroPadded}
 use Rattle.protocol.specs.Connection.{cipherKeyBytes}
 use Rattle.protocol.specs.Keys as rules
-use Rattle.keys.specs.declared.labels.Keys.{Keys}
+use Rattle.keys.specs.declared.Keys.{Keys}
 
 -- zeros behind a cipher key of 16 bytes
 abbrev pub stored : rules.Keys → Keys

@@ -1,4 +1,5 @@
 // The table of RULES 7: a label and a context for each key. Both carry their own final zero byte.
+use crate::Keys;
 use blocks::block_at;
 use kdf::derive_16;
 use kdf::derive_32;
@@ -8,14 +9,6 @@ ghost use Rattle.protocol.specs.Connection.{cipherKeyBytes};
 ghost use Rattle.protocol.specs.Keys.{cipherMaterial, keys311, keys300, derivedKeys};
 ghost use Rattle.protocol.specs.Suite.{kdf};
 ghost use Rattle.keys.specs.Reading.{stored};
-
-// A cipher key of 16 bytes has zeros behind it.
-pub struct Keys {
-    pub signing: [u8; 16],
-    pub application: [u8; 16],
-    pub client_to_server: [u8; 32],
-    pub server_to_client: [u8; 32],
-}
 
 // Zeros behind a key of 16 bytes.
 fn padded(key: [u8; 16]) -> [u8; 32]

@@ -3,7 +3,6 @@ mod labels;
 mod place;
 
 use answer::refuse;
-use labels::Keys;
 use place::write;
 ghost use mathlib.Core.Path.{_≡_};
 ghost use Rattle.protocol.specs.Answer.{firstOf, firstElse};
@@ -12,6 +11,14 @@ ghost use Rattle.protocol.specs.Suite.{kdf};
 ghost use Rattle.protocol.specs.Calls.{derivation, onlyKeys, materialTests, derivationTests};
 ghost use Rattle.protocol.specs.Contract.{Returns};
 ghost use Rattle.keys.specs.Reading.{stored};
+
+// A cipher key of 16 bytes has zeros behind it.
+pub struct Keys {
+    pub signing: [u8; 16],
+    pub application: [u8; 16],
+    pub client_to_server: [u8; 32],
+    pub server_to_client: [u8; 32],
+}
 
 // 18, 19: of deriving and adding.
 pub fn material_number(dialect: u16, cipher: u16, material: &[u8], later: u32) -> u32

@@ -1,5 +1,5 @@
 // The caller's place for the keys.
-use crate::labels::Keys;
+use crate::Keys;
 use runs::copy;
 ghost use mathlib.Core.Path.{_≡_};
 ghost use mathlib.Core.List.{_++_};

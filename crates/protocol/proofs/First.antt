@@ -1,19 +1,25 @@
 -- What is known once the first tests have passed.
 -- Assumes nothing.
 use mathlib.Core.Path.{_≡_, refl}
-use mathlib.Core.Bool.{true}
+use mathlib.Core.Bool.{Bool, true, false}
 use mathlib.Core.List.{_++_}
 use Prim.Native.Nat.{ℕ, _≤_, _<_}
 use native.Mathlib.Omega.{arith}
 use borrow.Author.Tests.{not-false, eqb-true, leb-false, ltb-false}
 use lib.Dec.{eqb}
 use lib.ListN.{length, length-drop}
+use Rattle.aes.specs.KeySizes.{isKeyLength}
+use Rattle.aes.proofs.KeySizeLaws.{is-16, is-32}
 use Rattle.protocol.specs.Bytes.{Bytes}
 use Rattle.protocol.specs.Answer.{firstOf}
 use Rattle.protocol.specs.TransformHeader.{inner}
 use Rattle.protocol.specs.Connection.{Connection, encrypts, usesWide, cipherKeyBytes}
 use Rattle.protocol.specs.Calls.{keyTests, messageTests}
 use Rattle.protocol.proofs.Judging.{NoneApplies, line, passes}
+
+either-length : (wide : Bool) → isKeyLength (cipherKeyBytes wide) ≡ true
+either-length true = is-32
+either-length false = is-16
 
 pub record First (c : Connection) (key m : Bytes) : Type 0 where
   pub key-fits : length key ≡ cipherKeyBytes (usesWide c)
@@ -35,3 +41,7 @@ module _ (c : Connection) (key m : Bytes) where
         short = omega arith;
         none = h;
       }
+
+  -- the ciphers take it
+  pub key-length : First c key m → isKeyLength (length key) ≡ true
+  key-length f = rw (f .key-fits) (either-length (usesWide c))

@@ -1,3 +1,4 @@
 pub mod Sealing
 pub mod Opening
+pub mod KeyLaws
 pub mod AddingLaws

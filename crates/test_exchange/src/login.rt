@@ -112,9 +112,10 @@ pub fn both_fold(line: &[u8]) -> Login {
     }
 }
 
-pub fn adding(id: u64) -> Adding {
+pub fn adding(l: Login, id: u64) -> Adding {
     Adding {
         dialect: 0x0311,
+        cipher: l.cipher,
         id: id,
         guest: false,
         anonymous: false,
@@ -178,8 +179,8 @@ fn server_adds(what: &[u8], l: Login, from: Table, a: Adding) -> Table {
 // Both ends add the session.
 pub fn both_add(l: Login) -> Ends {
     let none = table_by_value::empty();
-    let client = client_adds(b"client adds", l, none, adding(l.id));
-    let server = server_adds(b"server adds", l, none, adding(l.id));
+    let client = client_adds(b"client adds", l, none, adding(l, l.id));
+    let server = server_adds(b"server adds", l, none, adding(l, l.id));
     keys(b"client's keys", client, l.id);
     keys(b"server's keys", server, l.id);
     Ends {
