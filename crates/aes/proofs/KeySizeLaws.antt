@@ -1,7 +1,7 @@
 -- The two key sizes, and the round keys of either in an array of fifteen: the cipher under them is the one of the key.
 use mathlib.Core.Bool.{Bool, true, false, _||_}
 use mathlib.Core.List.{List, [], _∷_, _++_, append-nil}
-use mathlib.Core.Path.{_≡_, refl, sym, ap, ap₂, _∙_}
+use mathlib.Core.Path.{_≡_, refl, sym, ap, ap₂, _∙_, subst}
 use Prim.Native.Nat.{ℕ, zero, suc, _+_, _-_, _/_, _<_, _≤_}
 use native.Mathlib.Nat.{le-of-eq}
 use native.Mathlib.Omega.{arith}
@@ -40,11 +40,11 @@ pub else-16 : (n : ℕ) → isKeyLength n ≡ true → (n ≡ 32 → ⊥) → n 
 else-16 n h d = of-sizes n h (λ e. e) (λ e. absurd (d e))
 
 -- what the cipher asks of a number of rounds
-pub some-rounds : (n : ℕ) → 0 < roundCount n
+some-rounds : (n : ℕ) → 0 < roundCount n
 unfolding roundCount
 some-rounds n = omega arith
 
-pub below-fifteen : (n : ℕ) → isKeyLength n ≡ true → roundCount n < 15
+below-fifteen : (n : ℕ) → isKeyLength n ≡ true → roundCount n < 15
 unfolding roundCount
 below-fifteen n h = of-sizes n h (λ e. omega arith) (λ e. omega arith)
 
@@ -55,7 +55,7 @@ unfolding fifteen
 cipher-fifteen keys h = cipher-longer keys _ (length keys - 1) (omega arith)
 
 -- with a key's own number of rounds
-pub cipher-under : (key : List ℕ) → cipher (roundCount (length key)) (fifteen (expandedKey key)) ≡ blockCipher (expandedKey key)
+cipher-under : (key : List ℕ) → cipher (roundCount (length key)) (fifteen (expandedKey key)) ≡ blockCipher (expandedKey key)
 cipher-under key =
     let l = length-expandedKey key in
     let n : roundCount (length key) ≡ length (expandedKey key) - 1 = omega arith in
@@ -97,3 +97,15 @@ unfolding roundCount
 long-keys key k0 k1 r h e0 e1 er =
     let n = length-expandedKey key in
     er ∙ ap expandedKey (ap₂ _++_ e0 e1 ∙ halves key h) ∙ full (expandedKey key) (omega arith)
+
+-- ---- what the modes take of the code's results
+
+module _ (key : List ℕ) {n : ℕ} (en : n ≡ roundCount (length key)) where
+  pub keyed : {keys : List (List ℕ)} → keys ≡ fifteen (expandedKey key) → cipher n keys ≡ blockCipher (expandedKey key)
+  keyed ek = ap₂ cipher en ek ∙ cipher-under key
+
+  pub positive : 0 < n
+  positive = subst (λ (m : ℕ). 0 < m) (sym en) (some-rounds (length key))
+
+  pub bounded : isKeyLength (length key) ≡ true → n < 15
+  bounded h = subst (λ (m : ℕ). m < 15) (sym en) (below-fifteen (length key) h)
