@@ -109,3 +109,9 @@ module _ (key : List ℕ) {n : ℕ} (en : n ≡ roundCount (length key)) where
 
   pub bounded : isKeyLength (length key) ≡ true → n < 15
   bounded h = subst (λ (m : ℕ). m < 15) (sym en) (below-fifteen (length key) h)
+
+-- eleven round keys are those of ten rounds
+pub ten-rounds : (keys : List (List ℕ)) {w : List (List ℕ)} → length keys ≡ 11 → w ≡ fifteen keys → cipher 10 w ≡ blockCipher keys
+ten-rounds keys h e =
+    let n : 10 ≡ length keys - 1 = omega arith in
+    ap₂ cipher n e ∙ cipher-fifteen keys (omega arith)
