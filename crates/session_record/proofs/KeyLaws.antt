@@ -25,17 +25,17 @@ module _ (s : Session) where
   opening-by-role true = refl
   opening-by-role false = refl
 
-pub fits : (wide : Bool) → cipherKeyBytes wide ≤ 32
+fits : (wide : Bool) → cipherKeyBytes wide ≤ 32
 fits true = lit≤ tt
 fits false = lit≤ tt
 
 -- the part of a place that is lent as the key
-module _ (wide : Bool) (place : Bytes) (n : ℕ) (e : n ≡ cipherKeyBytes wide) (l : length place ≡ 32) where
-  pub lent-length : length (take n place) ≡ cipherKeyBytes wide
-  lent-length = let h = fits wide in length-take-le n place (omega arith) ∙ e
-
+module _ (wide : Bool) (n : ℕ) (e : n ≡ cipherKeyBytes wide) (place : Bytes) (l : length place ≡ 32) where
   pub lent-inside : n ≤ length place
   lent-inside = let h = fits wide in omega arith
+
+  pub lent-length : length (take n place) ≡ n
+  lent-length = length-take-le n place lent-inside
 
   pub lent-is : (key : Bytes) → take (cipherKeyBytes wide) place ≡ key → take n place ≡ key
   lent-is key h = ap (λ (k : ℕ). take k place) e ∙ h
