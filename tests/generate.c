@@ -191,7 +191,7 @@ static void make_folding(struct call *c)
 size_t any_material_length(void)
 {
     if (chance(60)) return chance(50) ? 16 : 32;
-    if (chance(5)) return MATERIAL_LIMIT - 1 + below(3);
+    if (chance(15)) return MATERIAL_LIMIT - 1 + below(3);
     return chance(95) ? 1 + below(200) : 0;
 }
 

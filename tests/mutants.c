@@ -81,7 +81,6 @@ static void mistake_wide_keys(const uint8_t *material, size_t n, const uint8_t *
     if (fault("derive: an application key closes with 256 bits")) derive_key(session_key, 16, "SMBAppKey", chain, 0, keys + 16, 16);
     if (fault("derive: a wide key ends in zeros")) memset(keys + 48, 0, 16);
     if (fault("derive: 64 bytes of material count") && n > 64) derive_key(material, 64, "SMBC2SCipherKey", chain, 0, keys + 32, 32);
-    if (fault("derive: short material is padded") && n < 16) derive_key(session_key, 16, "SMBC2SCipherKey", chain, 0, keys + 32, 32);
 }
 
 /* The cipher as a wrong library reads it. */

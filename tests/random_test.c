@@ -53,9 +53,9 @@ int main(int argc, char **argv)
     for (enum function f = SEAL; f <= OPEN && cases >= ENOUGH; f++)
         expect(notices[f] >= cases / 400, "break notices hardly came up", notices[f]);
     for (uint16_t cipher = 1; cipher <= CIPHERS && cases >= ENOUGH; cipher++) {
-        expect(done[SEAL][cipher] >= cases / 100 && done[OPEN][cipher] >= cases / 100, "a cipher that hardly came up", cipher);
+        expect(done[SEAL][cipher] >= cases / 200 && done[OPEN][cipher] >= cases / 200, "a cipher that hardly came up", cipher);
         expect(done[DERIVE][cipher] >= cases / 400, "a cipher whose keys hardly came up", cipher);
     }
-    if (cases >= ENOUGH) expect(long_material >= 5, "material that is too long hardly came up", long_material);
+    if (cases >= ENOUGH) expect(long_material >= cases / 20000, "material that is too long hardly came up", long_material);
     return finish();
 }
