@@ -214,15 +214,14 @@ static void send_published(struct conversation *s)
 
 int main(int argc, char **argv)
 {
-    static const uint8_t material[] = "32 bytes: a key of AES-256-CTS..";
-    const struct bytes *gcm = &derivations[0].material, *ccm = &derivations[1].material, long_material = {material, 32};
+    const struct bytes *gcm = &derivations[0].material, *ccm = &derivations[1].material;
     struct conversation sessions[] = {
         {.dialect = 0x0311, .cipher = 2, .port = 50001, .id = transforms[0].id, .setup = folds, .material = gcm},
         {.dialect = 0x0311, .cipher = 1, .port = 50002, .id = transforms[4].id, .setup = folds + SETUP_MESSAGES, .material = ccm},
         {.dialect = 0x0300, .cipher = 1, .port = 50003, .id = 0x0300000000000003, .setup = folds, .material = gcm},
         {.dialect = 0x0302, .cipher = 2, .port = 50004, .id = 0x0302000000000004, .setup = folds, .material = ccm},
         {.dialect = 0x0311, .cipher = 3, .port = 50005, .id = 0x0311000000000005, .setup = folds, .material = gcm},
-        {.dialect = 0x0311, .cipher = 4, .port = 50006, .id = 0x0311000000000006, .setup = folds, .material = &long_material},
+        {.dialect = 0x0311, .cipher = 4, .port = 50006, .id = 0x0311000000000006, .setup = folds, .material = ccm},
     };
     if (argc != 3 || (pcap = fopen(argv[1], "wb")) == NULL || (list = fopen(argv[2], "w")) == NULL) return 2;
     begin(1, argv);
