@@ -10,6 +10,13 @@ ghost use Rattle.rijndael.specs.BlockCipher.{expandedKey, roundCount};
 ghost use Rattle.aes_tables.specs.Tables.{SubMixTable};
 ghost use Rattle.aes.specs.KeySizes.{isKeyLength, fifteen};
 
+// Whether there are keys of so many bytes.
+pub fn is_key_length(n: usize) -> bool
+    ensures { λ r. ⌜ r ≡ isKeyLength n ⌝ }
+{
+    (n == 16) | (n == 32)
+}
+
 // The round keys (5.2) of a key of 128 bits.
 pub fn expand_key(key: [u8; 16]) -> [[u8; 16]; 11]
     ensures { λ r. ⌜ r ≡ expandedKey key ⌝ }

@@ -50,14 +50,8 @@ fn xor_key_stream(
     requires { ⌜ SubMixTable (now t) × (0 < rounds) × (rounds < 15) × (length (now text) < longest) ⌝ }
     ensures { λ _. ⌜ now (text .exit) ≡ encrypt (cipher rounds keys) nonce (now (text .entry)) ⌝ }
 {
-    ctr::apply(
-        t,
-        keys,
-        rounds,
-        ccm_formatting::flags_and_nonce(3, nonce),
-        1,
-        text,
-    );
+    let prefix = ccm_formatting::flags_and_nonce(3, nonce);
+    ctr::apply(t, keys, rounds, prefix, 1, text);
 }
 
 fn seal_with(

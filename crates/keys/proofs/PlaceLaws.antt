@@ -44,12 +44,12 @@ written-whole all n a b c d place e w =
     sym whole ∙ w .front ∙ joined
 
 -- a cipher key, without the zeros behind it
-unpadded : (n : ℕ) (key : Bytes) → length key ≡ n → n ≤ 32 → take n (zeroPadded 32 key) ≡ key
+pub unpadded : (n : ℕ) (key : Bytes) → length key ≡ n → n ≤ 32 → take n (zeroPadded 32 key) ≡ key
 unpadded n key l h =
     ap (take n) (sym (zeros-replaced 32 key (length key) (omega arith)) ∙ ap (λ (x : Bytes). x ++ drop (length key) (replicate 32 0)) (take-length key))
     ∙ take-at key (drop (length key) (replicate 32 0)) n l
 
-at-most-32 : (wide : Bool) → cipherKeyBytes wide ≤ 32
+pub at-most-32 : (wide : Bool) → cipherKeyBytes wide ≤ 32
 at-most-32 true = lit≤ tt
 at-most-32 false = lit≤ tt
 

@@ -4,12 +4,12 @@ use mathlib.Core.Path.{_≡_, refl, ap, _∙_}
 use mathlib.Core.Bool.{Bool, true, false, cond, not}
 use Prim.Native.Nat.{ℕ, _≤_}
 use native.Mathlib.Omega.{arith}
-use lib.Dec.{lit≤}
 use lib.ListN.{length, take}
 use lib.Seq.{length-take-le}
 use Rattle.protocol.specs.Bytes.{Bytes}
 use Rattle.protocol.specs.Connection.{client, server, cipherKeyBytes}
 use Rattle.protocol.specs.SessionTable.{sealingKey, openingKey}
+use Rattle.keys.proofs.PlaceLaws.{at-most-32}
 use Rattle.session_record.specs.declared.Session.{Session}
 use Rattle.session_record.specs.Reading.{keyBytes, sessionOf}
 
@@ -25,17 +25,13 @@ module _ (s : Session) where
   opening-by-role true = refl
   opening-by-role false = refl
 
-pub fits : (wide : Bool) → cipherKeyBytes wide ≤ 32
-fits true = lit≤ tt
-fits false = lit≤ tt
-
 -- the part of a place that is lent as the key
-module _ (wide : Bool) (place : Bytes) (n : ℕ) (e : n ≡ cipherKeyBytes wide) (l : length place ≡ 32) where
-  pub lent-length : length (take n place) ≡ cipherKeyBytes wide
-  lent-length = let h = fits wide in length-take-le n place (omega arith) ∙ e
-
+module _ (wide : Bool) (n : ℕ) (e : n ≡ cipherKeyBytes wide) (place : Bytes) (l : length place ≡ 32) where
   pub lent-inside : n ≤ length place
-  lent-inside = let h = fits wide in omega arith
+  lent-inside = let h = at-most-32 wide in omega arith
+
+  pub lent-length : length (take n place) ≡ n
+  lent-length = length-take-le n place lent-inside
 
   pub lent-is : (key : Bytes) → take (cipherKeyBytes wide) place ≡ key → take n place ≡ key
   lent-is key h = ap (λ (k : ℕ). take k place) e ∙ h

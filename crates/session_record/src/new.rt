@@ -25,13 +25,17 @@ pub fn fresh(a: Adding, k: Keys) -> Session
     let spare = [0u8; 4];
     let bare = a.guest | a.anonymous;
     let wide = connection::is_wide(a.dialect, a.cipher);
-    let first = held(bare, k.client_to_server);
-    let second = held(bare, k.server_to_client);
+    let signing = k.signing;
+    let application = k.application;
+    let to_server = k.client_to_server;
+    let to_client = k.server_to_client;
+    let first = held(bare, to_server);
+    let second = held(bare, to_client);
     Session {
         id: a.id,
         counter: 0,
-        signing: k.signing,
-        application: k.application,
+        signing: signing,
+        application: application,
         client_to_server: first,
         server_to_client: second,
         used: 1,

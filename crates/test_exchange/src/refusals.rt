@@ -107,7 +107,12 @@ pub fn guest(l: Login, from: Table) -> Table {
 // 8: and an anonymous one, 3.
 pub fn anonymous(l: Login, from: Table) -> Table {
     let c = login::client(l);
-    let t1 = login::client_adds(b"client adds 3, anonymous", l, from, bare(l, 3, false, true));
+    let t1 = login::client_adds(
+        b"client adds 3, anonymous",
+        l,
+        from,
+        bare(l, 3, false, true),
+    );
     at_client(
         b"client seals for 3",
         b"client opens a message for 3",

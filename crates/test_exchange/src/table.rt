@@ -46,7 +46,12 @@ pub fn adding_refused(l: Login, from: Table) -> Table {
     let t2 = no_key(b"client adds 0, dialect 2.1, no key", l, t1, old);
     let t3 = no_key(b"client adds 0, no key", l, t2, zero);
     let t4 = login::client_adds(b"client adds 0", l, t3, zero);
-    login::client_adds(b"client adds the session again", l, t4, login::adding(l, l.id))
+    login::client_adds(
+        b"client adds the session again",
+        l,
+        t4,
+        login::adding(l, l.id),
+    )
 }
 
 // The sessions 4 to 16: as many as the table has records left.
@@ -62,7 +67,12 @@ fn filled(l: Login, from: Table) -> Table {
 // 22: all records are used. 21 comes before it.
 pub fn full(l: Login, from: Table) -> Table {
     let t1 = filled(l, from);
-    let t2 = login::client_adds(b"client adds 17, no free record", l, t1, login::adding(l, 17));
+    let t2 = login::client_adds(
+        b"client adds 17, no free record",
+        l,
+        t1,
+        login::adding(l, 17),
+    );
     login::client_adds(b"client adds 4, no free record", l, t2, login::adding(l, 4))
 }
 
