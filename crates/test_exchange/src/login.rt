@@ -144,6 +144,11 @@ pub fn server(l: Login) -> Connection {
     }
 }
 
+// A cipher key of 16 bytes, without the zeros behind it.
+fn show_cipher_key(key: [u8; 32]) {
+    test_lines::show_16(arrays::bytes_16(&key, 0));
+}
+
 // The four keys of a record.
 fn keys(what: &[u8], t: Table, id: u64) {
     let s = table_by_value::lookup_in(t, id);
@@ -156,9 +161,9 @@ fn keys(what: &[u8], t: Table, id: u64) {
     test_lines::space();
     test_lines::show_16(application);
     test_lines::space();
-    test_lines::show_16(client_to_server);
+    show_cipher_key(client_to_server);
     test_lines::space();
-    test_lines::show_16(server_to_client);
+    show_cipher_key(server_to_client);
     test_lines::end_line();
 }
 
