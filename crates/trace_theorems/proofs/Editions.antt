@@ -62,6 +62,8 @@ first-read f e d c t =
     let its = both (leb 4 (length f)) (knownTo editionOf n) (g .0) (ap (λ (x : Edition). ltb 0 (x .longest)) (alike n one) ∙ g .1) in
     let now : readFileHeadBy editionOf f ≡ fileHead e d c =
     ap (λ (b : Bool). cond b (fileHead n (dialectIn (headIn f)) (cipherIn (headIn f))) badFileHead) its ∙ r .2 in
-    let same = alike e (ap (λ (x : ℕ). eqb x 1) (sym (r .1)) ∙ one) in
-    (now, λ p. ap (λ (h : FileReading). afterHead editionOf h f p) now ∙ ap (λ (x : Edition). readAt x f p) same
-    ∙ ap (λ (h : FileReading). afterHead firstEditions h f p) (sym t))
+    let same = alike e (ap (λ (x : ℕ). eqb x 1) (sym (r .1)) ∙ one) in (
+      now,
+      λ p. ap (λ (h : FileReading). afterHead editionOf h f p) now ∙ ap (λ (x : Edition). readAt x f p) same
+          ∙ ap (λ (h : FileReading). afterHead firstEditions h f p) (sym t),
+    )
