@@ -22,7 +22,7 @@ pub struct Connection {
 pub fn longest_message() -> usize
     ensures { λ r. ⌜ r ≡ longestMessage ⌝ }
 {
-    1048576
+    8454144
 }
 
 // Number 17: 2^64 - 1.
