@@ -78,9 +78,9 @@ extern "C" {
  */
 
 #define SMB3SEAL_VERSION_MAJOR 0
-#define SMB3SEAL_VERSION_MINOR 6
+#define SMB3SEAL_VERSION_MINOR 7
 #define SMB3SEAL_VERSION_PATCH 0
-#define SMB3SEAL_VERSION "0.6.0"
+#define SMB3SEAL_VERSION "0.7.0"
 
 /* ---- dialects and ciphers, as MS-SMB2 numbers them */
 
@@ -107,7 +107,7 @@ extern "C" {
 #define SMB3SEAL_KEYS_BYTES 64           /* the four keys that smb3seal_derive writes */
 #define SMB3SEAL_KEYS_256_BYTES 96       /* the same with cipher keys of 256 bits */
 #define SMB3SEAL_LONGEST_MATERIAL 65536  /* bytes of key material that cipher keys of 256 bits come from; else any length will do */
-#define SMB3SEAL_LONGEST_MESSAGE 1048576 /* bytes behind the transform header, and of a message that is folded, signed or verified */
+#define SMB3SEAL_LONGEST_MESSAGE 8454144 /* bytes behind the transform header, and of a message that is folded, signed or verified */
 
 /* ---- where smb3seal_derive writes each key */
 
@@ -154,7 +154,7 @@ extern "C" {
 
 /* The message as it arrived, before any decryption. */
 #define SMB3SEAL_TOO_SHORT 2     /* the whole message has at most 52 bytes */
-#define SMB3SEAL_TOO_LONG 3      /* more than 1,048,576 bytes behind the transform header, or in a message to sign or verify */
+#define SMB3SEAL_TOO_LONG 3      /* more than 8,454,144 bytes behind the transform header, or in a message to sign or verify */
 #define SMB3SEAL_NOT_TRANSFORM 4 /* the message does not begin FD 53 4D 42: it is not sealed, so the program should not open it */
 #define SMB3SEAL_BAD_FLAGS 5     /* the transform header's Flags are not 0x0001 */
 #define SMB3SEAL_OTHER_SESSION 6 /* the transform header's SessionId is not the session's; with a session table, no used record has the id */
@@ -188,7 +188,7 @@ extern "C" {
 #define SMB3SEAL_TABLE_FULL 22 /* no record is free for the session to add */
 
 /* Folding. Disconnect: no negotiate or session setup message has such a length. */
-#define SMB3SEAL_FOLD_LENGTH 23 /* the message has under 64 or over 1,048,576 bytes */
+#define SMB3SEAL_FOLD_LENGTH 23 /* the message has under 64 or over 8,454,144 bytes */
 
 /* Verifying. A server fails the request with STATUS_ACCESS_DENIED, a client discards the message; both may disconnect. */
 #define SMB3SEAL_NOT_SIGNED 24    /* the signed flag (0x00000008 of Flags, bytes 16..20) is missing */
@@ -509,9 +509,9 @@ uint32_t smb3seal_table_open(const struct smb3seal_session *table, size_t table_
  * start of the trace.
  */
 
-#define SMB3SEAL_TRACE_EDITION 1               /* of the format that is written */
+#define SMB3SEAL_TRACE_EDITION 2               /* of the format that is written; editions 1 and 2 are read */
 #define SMB3SEAL_TRACE_HEAD_BYTES 4            /* a trace's head, and the head before each payload */
-#define SMB3SEAL_TRACE_LONGEST_PAYLOAD 1048628 /* bytes of a payload; the shortest has 1 */
+#define SMB3SEAL_TRACE_LONGEST_PAYLOAD 8454196 /* bytes of a payload, in edition 1 1,048,628; the shortest has 1 */
 #define SMB3SEAL_TRACE_SESSION_BYTES 24        /* the payload of a lab session */
 
 #define SMB3SEAL_TRACE_NEGOTIATE 0 /* a negotiate request or response */
@@ -522,7 +522,7 @@ uint32_t smb3seal_table_open(const struct smb3seal_session *table, size_t table_
 /*
  * Writes the head of a trace at its start.
  *
- * edition  SMB3SEAL_TRACE_EDITION
+ * edition  SMB3SEAL_TRACE_EDITION; to edition 1, which is read and not written, it answers 36
  * dialect  SMB3SEAL_DIALECT_.., or any number
  * cipher   SMB3SEAL_CIPHER_.., or any number up to 255
  * trace    writes: SMB3SEAL_TRACE_HEAD_BYTES at its start; the rest stays as it is

@@ -6,7 +6,7 @@
 
 #include "call.h"
 
-enum { TRANSFORM = 52, HEADER = 64, LIMIT = 1048576, ROOM = TRANSFORM + LIMIT + 1, SESSION = 5, OPLOCK_BREAK = 0x12 };
+enum { TRANSFORM = 52, HEADER = 64, LIMIT = 8454144, ROOM = TRANSFORM + LIMIT + 1, SESSION = 5, OPLOCK_BREAK = 0x12 };
 enum { MATERIAL_LIMIT = 65536, KEY_ROOM = MATERIAL_LIMIT + 1 };
 
 /* A number in n little-endian bytes. */

@@ -65,7 +65,7 @@ use std::fmt;
 /// Bytes of the transform header, before every sealed message.
 pub const HEADER_BYTES: usize = 52;
 /// The most bytes behind the transform header, and of a message that is folded, signed or verified.
-pub const LONGEST_MESSAGE: usize = 1_048_576;
+pub const LONGEST_MESSAGE: usize = 8_454_144;
 
 /// The most bytes of key material that cipher keys of 256 bits come from.
 pub const LONGEST_MATERIAL: usize = 65_536;

@@ -1,8 +1,8 @@
 //! Lab traces: what passed on a connection, recorded and read.
 use crate::{ffi, Cipher, Dialect, Key, Refusal};
 
-/// The edition of the format that is written.
-const EDITION: u8 = 1;
+/// The edition of the format that is written; edition 1 is read too.
+const EDITION: u8 = 2;
 /// Bytes of a trace's head, behind which is the first record.
 const HEAD_BYTES: usize = 4;
 

@@ -57,9 +57,17 @@ fn refused_writes_change_nothing() {
     for record in [request(b""), request(&[1; 13]), wrong] {
         assert_eq!(writer.record(record), Err(Refusal::UNREADABLE));
     }
-    assert_eq!(writer.bytes(), [1, 3, 17, 2]);
+    assert_eq!(writer.bytes(), [2, 3, 17, 2]);
     writer.record(request(&[1; 12])).unwrap();
-    assert_eq!(room[4..8], [0x20, 0, 6, 0]);
+    assert_eq!(room[4..8], [0x20, 0, 0, 0xC0]);
+}
+
+#[test]
+fn edition_1_is_read() {
+    let trace = [1, 3, 17, 2, 0x20, 0, 1, 0, b'a', b'b'];
+    let mut reader = TraceReader::new(&trace).unwrap();
+    assert_eq!(reader.next(), Some(Ok(request(b"ab"))));
+    assert_eq!(reader.next(), None);
 }
 
 #[test]
@@ -67,5 +75,5 @@ fn bad_heads() {
     assert!(begin(&mut [0; 3]).is_err());
     assert!(TraceWriter::new(&mut [0; 4], Dialect::SMB_3_1_1, Cipher(256)).is_err());
     assert!(TraceReader::new(&[1, 3, 17]).is_err());
-    assert!(TraceReader::new(&[2, 3, 17, 2]).is_err());
+    assert!(TraceReader::new(&[3, 3, 17, 2]).is_err());
 }

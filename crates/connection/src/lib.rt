@@ -22,7 +22,7 @@ pub struct Connection {
 pub fn longest_message() -> usize
     ensures { λ r. ⌜ r ≡ longestMessage ⌝ }
 {
-    1048576
+    8454144
 }
 
 // Number 19, of key material that cipher keys of 32 bytes come from.
