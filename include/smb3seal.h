@@ -111,10 +111,10 @@ extern "C" {
 
 /* ---- where smb3seal_derive writes each key */
 
-#define SMB3SEAL_SIGNING_KEY 0           /* both ends sign and verify with it */
+#define SMB3SEAL_SIGNING_KEY 0               /* both ends sign and verify with it */
 #define SMB3SEAL_APPLICATION_KEY 16
-#define SMB3SEAL_CLIENT_TO_SERVER_KEY 32 /* a client seals with it, a server opens with it */
-#define SMB3SEAL_SERVER_TO_CLIENT_KEY 48 /* a server seals with it, a client opens with it */
+#define SMB3SEAL_CLIENT_TO_SERVER_KEY 32     /* a client seals with it, a server opens with it */
+#define SMB3SEAL_SERVER_TO_CLIENT_KEY 48     /* a server seals with it, a client opens with it */
 #define SMB3SEAL_SERVER_TO_CLIENT_KEY_256 64 /* the same, behind a cipher key of 256 bits */
 
 /*
@@ -262,8 +262,8 @@ static inline size_t smb3seal_keys_bytes(uint16_t dialect, uint16_t cipher)
  *
  * Answers 0, or 40, 18, 19.
  */
-uint32_t smb3seal_derive(uint16_t dialect, uint16_t cipher, const uint8_t *material, size_t material_len, const uint8_t *chain, size_t chain_len,
-                         uint8_t *keys, size_t keys_len);
+uint32_t smb3seal_derive(uint16_t dialect, uint16_t cipher, const uint8_t *material, size_t material_len, const uint8_t *chain,
+                         size_t chain_len, uint8_t *keys, size_t keys_len);
 
 /*
  * Seals in place. Afterwards the message, of the same length, is ready to send.
