@@ -107,7 +107,8 @@ module _ (e : Edition) (f : Bytes) where
 
       pub seek-on : t ≡ false → Seeking from (p + 1)
       seek-on q =
-          let z : passed e (drop p f) ≡ passed e (drop (suc p) f) + 1 = pass-at e (drop p f) (drop (suc p) f) (getD f p 0) false (drop-cons f p 0 inside) (sym says ∙ q) in
+          let z : passed e (drop p f) ≡ passed e (drop (suc p) f) + 1 =
+          pass-at e (drop p f) (drop (suc p) f) (getD f p 0) false (drop-cons f p 0 inside) (sym says ∙ q) in
           let y : passed e (drop (p + 1) f) ≡ passed e (drop (suc p) f) = ap (λ (i : ℕ). passed e (drop i f)) (add-one p) in
           let a = s .same in
           let b = s .low in

@@ -12,7 +12,7 @@ use Rattle.trace.specs.Format.{Bytes, Edition, sizeIn, readable}
 use Rattle.trace.proofs.WriteLaws.{paste-two}
 use Rattle.trace.proofs.FormatLaws.{readable-good}
 use Rattle.trace_rescue.specs.Rescue.{isFound, passed, Piece, kept, dropped, pieceLength, pieceIn, piecesSome, pieces, keptBytes, gapNumbers, gapCount}
-use Rattle.trace_rescue.specs.Answers.{Cuts}
+use Rattle.trace_rescue.specs.Answers.{Cuts, Measured, Fits, Writes}
 use Rattle.trace_rescue.specs.declared.cut.Cut.{Cut}
 
 -- ---- a piece has a byte, and is inside
@@ -181,7 +181,8 @@ module _ (e : Edition) (f : Bytes) (p : ℕ) (here : p < length f) (c : Cut) (cu
   unfolding gapCount
   dropped-count q = ap gapCount (on-dropped q)
 
-  pub dropped-numbers : c .good ≡ false → gapNumbers p (pieces e (drop p f)) ≡ (p ∷ c .len ∷ []) ++ gapNumbers (p + c .len) (pieces e (drop (p + c .len) f))
+  pub dropped-numbers : c .good ≡ false
+      → gapNumbers p (pieces e (drop p f)) ≡ (p ∷ c .len ∷ []) ++ gapNumbers (p + c .len) (pieces e (drop (p + c .len) f))
   unfolding gapNumbers
   dropped-numbers q = ap (gapNumbers p) (on-dropped q) ∙ ap (λ (i : ℕ). p ∷ i ∷ gapNumbers (p + i) (pieces e (drop (p + c .len) f))) b-length
 
@@ -204,7 +205,7 @@ module _ (e : Edition) (f : Bytes) where
   measure-begins h = record { high = h; small = omega arith; few = omega arith; bytes-all = zero-add _; gaps-all = zero-add _ }
 
   module _ (p bytes gaps : ℕ) (m : Measuring p bytes gaps) where
-    pub measure-ends : length f ≤ p → (bytes ≡ length (keptBytes (pieces e (drop 4 f)))) × (gaps ≡ gapCount (pieces e (drop 4 f)))
+    pub measure-ends : length f ≤ p → Measured (pieces e (drop 4 f)) (record { kept = bytes; gaps = gaps })
     unfolding keptBytes gapCount
     measure-ends h =
         let z = no-pieces e f p h in
@@ -212,7 +213,7 @@ module _ (e : Edition) (f : Bytes) where
         let b : gapCount (pieces e (drop p f)) ≡ 0 = ap gapCount z in
         let x = m .bytes-all in
         let y = m .gaps-all in
-        (omega arith, omega arith)
+        record { kept = omega arith; gaps = omega arith }
 
     module _ (here : p < length f) (c : Cut) (cut : Cuts e f p c) where
       pub measure-kept : c .good ≡ true → Measuring (p + c .len) (bytes + c .len) gaps
@@ -256,19 +257,33 @@ module _ (e : Edition) (f room₀ list₀ : Bytes) where
     pub room-length : length room ≡ length room₀
     pub list-length : length list ≡ length list₀
     pub room-due : paste room w (keptBytes (pieces e (drop p f))) (length (keptBytes (pieces e (drop p f)))) ≡ paste room₀ 4 all (length all)
-    pub list-due : paste list (2 * k) (gapNumbers p (pieces e (drop p f))) (length (gapNumbers p (pieces e (drop p f)))) ≡ paste list₀ 0 gaps-all (length gaps-all)
+    pub list-due : paste list (2 * k) (gapNumbers p (pieces e (drop p f))) (length (gapNumbers p (pieces e (drop p f))))
+        ≡ paste list₀ 0 gaps-all (length gaps-all)
 
-  pub place-begins : 4 ≤ length f → 4 + length all ≤ length room₀ → 2 * gapCount (pieces e (drop 4 f)) ≤ length list₀ → Placing 4 4 0 room₀ list₀
-  place-begins h hr hl = record { high = h; room-left = hr; list-left = omega arith; room-length = refl; list-length = refl; room-due = refl; list-due = refl }
+  pub place-begins : Fits f (pieces e (drop 4 f)) room₀ list₀ → Placing 4 4 0 room₀ list₀
+  place-begins fit =
+      let g = fit .gaps in
+      record {
+        high = fit .head;
+        room-left = fit .bytes;
+        list-left = omega arith;
+        room-length = refl;
+        list-length = refl;
+        room-due = refl;
+        list-due = refl;
+      }
 
   module _ (p w k : ℕ) (room list : Bytes) (m : Placing p w k room list) where
-    pub place-ends : length f ≤ p → (room ≡ paste room₀ 4 all (length all)) × (list ≡ paste list₀ 0 gaps-all (length gaps-all))
+    pub place-ends : length f ≤ p → Writes 4 all (pieces e (drop 4 f)) room₀ room list₀ list
     unfolding keptBytes gapNumbers
     place-ends h =
-        let z = no-pieces e f p h in (
-          paste-zero room w [] ∙ ap (λ (ps : List Piece). paste room w (keptBytes ps) (length (keptBytes ps))) (sym z) ∙ m .room-due,
-          paste-zero list (2 * k) [] ∙ ap (λ (ps : List Piece). paste list (2 * k) (gapNumbers p ps) (length (gapNumbers p ps))) (sym z) ∙ m .list-due,
-        )
+        let z = no-pieces e f p h in
+        record {
+          bytes = paste-zero room w [] ∙ ap (λ (ps : List Piece). paste room w (keptBytes ps) (length (keptBytes ps))) (sym z) ∙ m .room-due;
+          gaps =
+              paste-zero list (2 * k) [] ∙ ap (λ (ps : List Piece). paste list (2 * k) (gapNumbers p ps) (length (gapNumbers p ps))) (sym z)
+              ∙ m .list-due;
+        }
 
     module _ (here : p < length f) (c : Cut) (cut : Cuts e f p c) where
       abbrev piece : Bytes
@@ -312,8 +327,8 @@ module _ (e : Edition) (f room₀ list₀ : Bytes) where
       pub part : (q : ℕ) → q ≡ p + c .len → take (q - p) (drop p f) ≡ piece
       part q e′ = let i : q - p ≡ c .len = omega arith in ap (λ (j : ℕ). take j (drop p f)) i
 
-      pub place-copied : c .good ≡ true → (room′ : Bytes) → room′ ≡ paste room w (take (p + c .len - p) (drop p f)) (length (take (p + c .len - p) (drop p f)))
-          → Placing (p + c .len) (w + c .len) k room′ list
+      pub place-copied : c .good ≡ true → (room′ : Bytes)
+          → room′ ≡ paste room w (take (p + c .len - p) (drop p f)) (length (take (p + c .len - p) (drop p f))) → Placing (p + c .len) (w + c .len) k room′ list
       place-copied q room′ er = place-kept q room′ (er ∙ ap (λ (x : Bytes). paste room w x (length x)) (part (p + c .len) refl))
 
       pub place-fits : c .good ≡ true → w + length (take (p + c .len - p) (drop p f)) ≤ length room
@@ -325,7 +340,8 @@ module _ (e : Edition) (f room₀ list₀ : Bytes) where
       pub place-list : c .good ≡ false → 2 * k + 2 ≤ length list
       place-list q = let g = dropped-count e f p here c cut q in let r = m .list-left in omega arith
 
-      pub place-dropped : c .good ≡ false → (list′ : Bytes) → list′ ≡ paste list (2 * k) (p ∷ c .len ∷ []) 2 → Placing (p + c .len) w (k + 1) room list′
+      pub place-dropped : c .good ≡ false → (list′ : Bytes) → list′ ≡ paste list (2 * k) (p ∷ c .len ∷ []) 2
+          → Placing (p + c .len) w (k + 1) room list′
       place-dropped q list′ el =
           let a : Bytes = p ∷ c .len ∷ [] in
           let l = ap length (dropped-bytes e f p here c cut q) in

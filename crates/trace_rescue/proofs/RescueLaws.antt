@@ -2,18 +2,19 @@
 -- Assumes nothing.
 use mathlib.Core.Path.{_≡_, refl, sym, ap, ap₂, _∙_}
 use mathlib.Core.Bool.{Bool, true, false, cond, not, _&&_}
-use mathlib.Core.List.{List, [], _∷_, _++_}
+use mathlib.Core.List.{List, _++_}
 use Prim.Native.Nat.{ℕ, _+_, _-_, _*_, _/_, _<_, _≤_}
 use native.Mathlib.Omega.{arith}
 use borrow.Author.Tests.{leb-true, le-leb, lt-leb, not-true, not-false}
 use lib.Dec.{leb}
-use lib.ListN.{length, take, drop, length-append, length-take}
-use lib.Seq.{paste, length-paste}
-use Rattle.trace.specs.Format.{Bytes, Edition, editionOf, known, headIn, editionIn, dialectIn, cipherIn, goodFileHead, fileHead, badFileHead, readFileHeadBy, readFileHead}
+use lib.ListN.{length, take, length-append, length-take}
+use lib.Seq.{paste}
+use Rattle.trace.specs.Format.{Bytes, editionOf, headIn, editionIn, goodFileHead, fileHead, badFileHead, readFileHeadBy, readFileHead}
 use Rattle.octets.proofs.BoolLaws.{and-true}
 use Rattle.trace.proofs.WriteLaws.{leb-same, paste-two}
-use Rattle.trace_rescue.specs.Rescue.{Piece, pieces, piecesOf, keptBytes, gapNumbers, gapCount, roomy, rescuedFile, gapsOf, done}
-use Rattle.trace_rescue.specs.Answers.{Rescues}
+use Rattle.trace_rescue.specs.Rescue.{Piece, piecesIn, piecesOf, keptBytes, gapNumbers, gapCount, roomy, rescuedFile, done}
+use Rattle.trace_rescue.specs.Answers.{Measured, Fits, Writes, Rescues}
+use Rattle.trace_rescue.specs.declared.Sizes.{Sizes}
 use Rattle.trace_rescue.specs.declared.Rescuing.the-variants.{Done, Refused}
 
 -- ---- the room
@@ -41,13 +42,17 @@ module _ (f room list : Bytes) where
   not-roomy : roomy f (length room) (length list) ≡ false → Rescues f room list (Refused 36) room list
   not-roomy t = record { answer = rw t; bytes = rw t; gaps = rw t }
 
+  -- whether there is room, once it is known whether there is a file head
+  abbrev with-head : Bool → Bool
+  with-head t = t && (leb (length (rescuedFile f)) (length room) && leb (2 * gapCount (piecesOf f)) (length list))
+
   pub head-unreadable : badFileHead ≡ readFileHead f → Rescues f room list (Refused 36) room list
   unfolding readFileHeadBy
-  head-unreadable t = not-roomy (ap (λ (u : Bool). u && (leb (length (rescuedFile f)) (length room) && leb (2 * gapCount (piecesOf f)) (length list))) (told-bad (goodFileHead editionOf f) _ _ _ (sym t)))
+  head-unreadable t = not-roomy (ap with-head (told-bad (goodFileHead editionOf f) _ _ _ (sym t)))
 
   module _ (e d c : ℕ) (t : fileHead e d c ≡ readFileHead f) where
     abbrev ps : List Piece
-    ps = pieces (editionOf e) (drop 4 f)
+    ps = piecesIn e f
 
     good : (goodFileHead editionOf f ≡ true) × (editionIn (headIn f) ≡ e)
     unfolding readFileHeadBy
@@ -58,7 +63,7 @@ module _ (f room list : Bytes) where
     head-there = leb-true 4 (length f) (and-true (leb 4 (length f)) _ (good .0) .0)
 
     same : ps ≡ piecesOf f
-    same = ap (λ (i : ℕ). pieces (editionOf i) (drop 4 f)) (sym (good .1))
+    same = ap (λ (i : ℕ). piecesIn i f) (sym (good .1))
 
     file-length : length (take 4 f ++ keptBytes ps) ≡ 4 + length (keptBytes ps)
     file-length =
@@ -66,45 +71,55 @@ module _ (f room list : Bytes) where
         let l : length (take 4 f) ≡ 4 = simp length-take (omega arith) in
         length-append (take 4 f) (keptBytes ps) ∙ ap (λ (i : ℕ). i + length (keptBytes ps)) l
 
-    module _ (k g : ℕ) (ek : k ≡ length (keptBytes ps)) (eg : g ≡ gapCount ps) (fits : Bool) (says : fits ≡ (leb (4 + k) (length room) && leb (2 * g) (length list))) where
+    module _ (s : Sizes) (is : Measured ps s) (fits : Bool) (says : fits ≡ (leb (4 + s .kept) (length room) && leb (2 * s .gaps) (length list))) where
       roomy-is : roomy f (length room) (length list) ≡ fits
       roomy-is =
-          ap (λ (u : Bool). u && (leb (length (rescuedFile f)) (length room) && leb (2 * gapCount (piecesOf f)) (length list))) (good .0)
+          ap with-head (good .0)
           ∙ ap₂ (λ (a b : ℕ). leb a (length room) && leb (2 * b) (length list))
-          (ap (λ (x : List Piece). length (take 4 f ++ keptBytes x)) (sym same) ∙ file-length ∙ ap (λ (i : ℕ). 4 + i) (sym ek))
-          (ap gapCount (sym same) ∙ sym eg)
+          (ap (λ (x : List Piece). length (take 4 f ++ keptBytes x)) (sym same) ∙ file-length ∙ ap (λ (i : ℕ). 4 + i) (sym (is .kept)))
+          (ap gapCount (sym same) ∙ sym (is .gaps))
           ∙ sym says
 
       pub room-small : not fits ≡ true → Rescues f room list (Refused 36) room list
       room-small q = not-roomy (roomy-is ∙ not-true _ q)
 
-      pub room-there : not fits ≡ false → (4 + length (keptBytes ps) ≤ length room) × (2 * gapCount ps ≤ length list)
+      pub room-there : not fits ≡ false → Fits f ps room list
       room-there q =
-          let b = and-true (leb (4 + k) (length room)) (leb (2 * g) (length list)) (sym says ∙ not-false _ q) in
-          let x = leb-true (4 + k) (length room) (b .0) in
-          let y = leb-true (2 * g) (length list) (b .1) in
-          (omega arith, omega arith)
+          let b = and-true (leb (4 + s .kept) (length room)) (leb (2 * s .gaps) (length list)) (sym says ∙ not-false _ q) in
+          let x = leb-true (4 + s .kept) (length room) (b .0) in
+          let y = leb-true (2 * s .gaps) (length list) (b .1) in
+          let k = is .kept in
+          let g = is .gaps in
+          record { head = head-there; bytes = omega arith; gaps = omega arith }
 
-      pub rescued : not fits ≡ false → (room′ list′ : Bytes) → room′ ≡ paste room 0 (take 4 f ++ keptBytes ps) (length (take 4 f ++ keptBytes ps))
-          → list′ ≡ paste list 0 (gapNumbers 4 ps) (length (gapNumbers 4 ps)) → Rescues f room list (Done (4 + k) g) room′ list′
-      rescued q room′ list′ er el =
+      -- the sum that is returned does not wrap
+      pub sum-fits : not fits ≡ false → 4 + s .kept ≤ length room
+      sum-fits q = leb-true (4 + s .kept) (length room) (and-true (leb (4 + s .kept) (length room)) _ (sym says ∙ not-false _ q) .0)
+
+      pub rescued : not fits ≡ false → (room′ list′ : Bytes) → Writes 0 (take 4 f ++ keptBytes ps) ps room room′ list list′
+          → Rescues f room list (Done (4 + s .kept) (s .gaps)) room′ list′
+      rescued q room′ list′ w =
           let r = roomy-is ∙ not-false _ q in
+          let bytes = ap (λ (i : ℕ). 4 + i) (is .kept) ∙ sym file-length ∙ ap (λ (x : List Piece). length (take 4 f ++ keptBytes x)) same in
           record {
-            answer =
-                rw r
-                (ap₂ done (ap (λ (i : ℕ). 4 + i) ek ∙ sym file-length ∙ ap (λ (x : List Piece). length (take 4 f ++ keptBytes x)) same) (eg ∙ ap gapCount same));
-            bytes = rw r (er ∙ ap (λ (x : List Piece). paste room 0 (take 4 f ++ keptBytes x) (length (take 4 f ++ keptBytes x))) same);
-            gaps = rw r (el ∙ ap (λ (x : List Piece). paste list 0 (gapNumbers 4 x) (length (gapNumbers 4 x))) same);
+            answer = rw r (ap₂ done bytes (is .gaps ∙ ap gapCount same));
+            bytes = rw r (w .bytes ∙ ap (λ (x : List Piece). paste room 0 (take 4 f ++ keptBytes x) (length (take 4 f ++ keptBytes x))) same);
+            gaps = rw r (w .gaps ∙ ap (λ (x : List Piece). paste list 0 (gapNumbers 4 x) (length (gapNumbers 4 x))) same);
           }
 
 -- ---- the file head, then the records
 
-pub head-then : (f room : Bytes) (b m after : Bytes) → 4 ≤ length f → 4 + length b ≤ length room → m ≡ paste room 0 (take 4 f) (length (take 4 f))
-    → after ≡ paste m 4 b (length b) → after ≡ paste room 0 (take 4 f ++ b) (length (take 4 f ++ b))
-head-then f room b m after h hr em ea =
-    let l : length (take 4 f) ≡ 4 = simp length-take (omega arith) in
-    let z : 4 ≡ 0 + length (take 4 f) = omega arith in
-    ea ∙ ap₂ (λ (x : Bytes) (i : ℕ). paste x i b (length b)) em z ∙ paste-two room 0 (take 4 f) b (omega arith)
-
 pub four-bytes : (f : Bytes) → 4 ≤ length f → length (take 4 f) ≡ 4
 four-bytes f h = simp length-take (omega arith)
+
+pub head-then : (f room list : Bytes) (ps : List Piece) (m after list′ : Bytes) → Fits f ps room list → m ≡ paste room 0 (take 4 f) (length (take 4 f))
+    → Writes 4 (keptBytes ps) ps m after list list′ → Writes 0 (take 4 f ++ keptBytes ps) ps room after list list′
+head-then f room list ps m after list′ fit em w =
+    let b : Bytes = keptBytes ps in
+    let l = four-bytes f (fit .head) in
+    let z : 4 ≡ 0 + length (take 4 f) = omega arith in
+    let inside = fit .bytes in
+    record {
+      bytes = w .bytes ∙ ap₂ (λ (x : Bytes) (i : ℕ). paste x i b (length b)) em z ∙ paste-two room 0 (take 4 f) b (omega arith);
+      gaps = w .gaps;
+    }

@@ -1,13 +1,12 @@
--- A damaged trace: what is kept of it, and what is dropped. Document 02, k).
+-- A damaged trace: what is kept of it, and what is dropped. RULES 17.
 -- Assumes nothing.
 use mathlib.Core.Bool.{Bool, true, false, cond, _&&_, _||_}
 use mathlib.Core.List.{List, [], _∷_, _++_}
 use Prim.Native.Nat.{ℕ, zero, suc, _+_, _*_}
 use lib.Dec.{leb}
 use lib.ListN.{length, take, drop}
-use lib.Seq.{paste}
 use Rattle.octets.specs.Same.{sameBytes}
-use Rattle.trace.specs.Format.{Bytes, Edition, editionOf, headIn, editionIn, goodFileHead, kindIn, lengthIn, sizeIn, readable}
+use Rattle.trace.specs.Format.{Bytes, unreadableNumber, Edition, editionOf, headIn, editionIn, goodFileHead, kindIn, lengthIn, sizeIn, readable}
 
 -- ---- where the reader takes up again
 
@@ -19,7 +18,7 @@ beginsMessage p = sameBytes (take 4 p) (0xFE ∷ 0x53 ∷ 0x4D ∷ 0x42 ∷ []) 
 unfoldable pub isFound : Edition → Bytes → Bool
 isFound e s = readable e s && (leb (kindIn (headIn s)) 2 && beginsMessage (take (lengthIn e (headIn s)) (drop 4 s)))
 
--- "looks at each following byte offset for the earliest": how many bytes stand before it; all, where there is none
+-- "looks at each following byte offset for the earliest": how many bytes of s stand before it; all, where there is none
 unfoldable pub passed : Edition → Bytes → ℕ
 passed e [] = 0
 passed e (x ∷ xs) = cond (isFound e (x ∷ xs)) 0 (passed e xs + 1)
@@ -32,7 +31,7 @@ pub data Piece : Type 0 where
   -- a gap: from an unreadable record on
   dropped : Bytes → Piece
 
--- how long the piece is that begins s
+-- how long the piece is that begins s: a record, or "after an unreadable record" what is passed, from the byte behind its first on
 unfoldable pub pieceLength : Edition → Bytes → ℕ
 pieceLength e s = cond (readable e s) (sizeIn e s) (passed e (drop 1 s) + 1)
 
@@ -67,9 +66,12 @@ gapCount [] = 0
 gapCount (kept b ∷ ps) = gapCount ps
 gapCount (dropped b ∷ ps) = gapCount ps + 1
 
--- of a file
+-- of a file of edition n
+abbrev pub piecesIn : ℕ → Bytes → List Piece
+piecesIn n f = pieces (editionOf n) (drop 4 f)
+
 abbrev pub piecesOf : Bytes → List Piece
-piecesOf f = pieces (editionOf (editionIn (headIn f))) (drop 4 f)
+piecesOf f = piecesIn (editionIn (headIn f)) f
 
 -- "The file head is copied, so the edition stays"
 abbrev pub rescuedFile : Bytes → Bytes
@@ -88,4 +90,19 @@ pub data Rescued : Type 0 where
   refused : ℕ → Rescued
 
 abbrev pub rescueAnswer : Bytes → ℕ → ℕ → Rescued
-rescueAnswer f n m = cond (roomy f n m) (done (length (rescuedFile f)) (gapCount (piecesOf f))) (refused 36)
+rescueAnswer f n m = cond (roomy f n m) (done (length (rescuedFile f)) (gapCount (piecesOf f))) (refused unreadableNumber)
+
+-- ---- as numbers and lent places, for C
+
+abbrev pub rescueNumber : Rescued → ℕ
+rescueNumber (done n k) = 0
+rescueNumber (refused n) = n
+
+-- what each place holds afterwards, where it held h: the bytes that were written, and the gaps that were listed
+abbrev pub writtenTo : Rescued → ℕ → ℕ
+writtenTo (done n k) h = n
+writtenTo (refused n) h = h
+
+abbrev pub gapsTo : Rescued → ℕ → ℕ
+gapsTo (done n k) h = k
+gapsTo (refused n) h = h
