@@ -5,7 +5,7 @@ use mathlib.Core.Bool.{Bool, true, false, cond, not, _&&_}
 use mathlib.Core.List.{List, _++_}
 use Prim.Native.Nat.{ℕ, _+_, _-_, _*_, _/_, _<_, _≤_}
 use native.Mathlib.Omega.{arith}
-use borrow.Author.Tests.{leb-true, le-leb, lt-leb, not-true, not-false}
+use borrow.Author.Tests.{leb-true, lt-leb, not-true, not-false}
 use lib.Dec.{leb}
 use lib.ListN.{length, take, length-append, length-take}
 use lib.Seq.{paste}
