@@ -210,6 +210,13 @@ pub fn rescue_trace(trace: &[u8]) -> Result<Rescued, Refusal> {
     };
     Refusal::check(number)?;
     rescued.truncate(written);
-    let gaps = numbers.chunks(2).take(count).map(|gap| (gap[0], gap[1])).collect();
-    Ok(Rescued { trace: rescued, gaps })
+    let gaps = numbers
+        .chunks(2)
+        .take(count)
+        .map(|gap| (gap[0], gap[1]))
+        .collect();
+    Ok(Rescued {
+        trace: rescued,
+        gaps,
+    })
 }
