@@ -32,13 +32,14 @@ fn show(list: &[u64], gaps: usize) {
     }
 }
 
-// Whether a new file was made of these bytes.
+// Whether a new file was made of these bytes. It holds keys, so that it is for its owner alone.
 fn write_new(path: &[u8], bytes: &[u8]) -> bool {
     let fd = os::create(path);
     if fd < 0 {
         os::fail(path);
         return false;
     }
+    libc::fchmod(fd, 0o600);
     let all = io::write_all(fd, bytes);
     if !all {
         os::fail(path);
