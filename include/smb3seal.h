@@ -78,9 +78,9 @@ extern "C" {
  */
 
 #define SMB3SEAL_VERSION_MAJOR 0
-#define SMB3SEAL_VERSION_MINOR 7
+#define SMB3SEAL_VERSION_MINOR 8
 #define SMB3SEAL_VERSION_PATCH 0
-#define SMB3SEAL_VERSION "0.7.0"
+#define SMB3SEAL_VERSION "0.8.0"
 
 /* ---- dialects and ciphers, as MS-SMB2 numbers them */
 
@@ -200,7 +200,7 @@ extern "C" {
 /* The session of the table under another cipher. A fault of the program: a session is used with the cipher of its connection. */
 #define SMB3SEAL_OTHER_KEY_SIZE 35 /* the session was added for a cipher of the other key size; tested after 8 */
 
-/* Lab traces. Reading: the trace is damaged or cut off from this place on. Writing: a fault of the program, or no room is left. */
+/* Lab traces. Reading: the trace is damaged or cut off from this place on. Writing: a fault of the program, or no room is left. A rescue: the head cannot be read, or no room is left. */
 #define SMB3SEAL_UNREADABLE 36 /* no head or record of a lab trace that a reader reads, or the room does not hold it */
 
 /* Lengths that are fixed. A fault of the program, on every dialect. */
@@ -571,6 +571,26 @@ uint32_t smb3seal_trace_read_head(const uint8_t *trace, size_t trace_len, uint16
  */
 uint32_t smb3seal_trace_read(const uint8_t *trace, size_t trace_len, size_t *at, uint32_t *kind, uint32_t *from_server,
                              size_t *payload, size_t *payload_len);
+
+/*
+ * Copies what is good of a damaged trace, so that it reads whole, and lists what is dropped. After a record that cannot be read it takes
+ * up again at the earliest place where there is one of a negotiate, setup or sealed message whose payload begins FE 53 4D 42 or
+ * FD 53 4D 42; where there is none, the gap runs to the end. Kept and dropped bytes together are the trace behind its head, each byte
+ * once. A trace with no gap comes out as it is. A lab session in a gap is lost, and with it the key of its messages.
+ *
+ * It answers 36 where the head cannot be read, and where rescued or gaps has too little room; room for trace_len bytes and for
+ * 2 * (trace_len / 9 + 1) numbers is always enough. Whatever the trace holds, the time is in proportion to its length.
+ *
+ * trace    reads: the whole trace, with its head, of either edition
+ * rescued  writes: the head and the good records; the rest stays as it is
+ * gaps     writes: two numbers for each gap, the place of its first byte in the trace and its length; the rest stays as it is
+ * written  writes: the number of bytes in rescued
+ * count    writes: the number of gaps
+ *
+ * Answers 0, or 36.
+ */
+uint32_t smb3seal_trace_rescue(const uint8_t *trace, size_t trace_len, uint8_t *rescued, size_t rescued_len, uint64_t *gaps,
+                               size_t gaps_len, size_t *written, size_t *count);
 
 #ifdef __cplusplus
 }

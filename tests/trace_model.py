@@ -1,4 +1,4 @@
-"""Lab traces a second time, apart from the library: a reader, a writer and the replay, with Python's hashes and the ciphers of
+"""Lab traces a second time, apart from the library: a reader, a writer, the replay and the rescue, with Python's hashes and the ciphers of
 python3-cryptography. Heads are read and written as strings of bits, the most significant first, as the format is put into words.
 """
 import hashlib
@@ -69,6 +69,34 @@ def read(trace, at):
     if kind > SESSION or spare or not right_length(kind, length, longest) or at + 4 + length > len(trace):
         return None
     return kind, direction == 1, trace[at + 4 : at + 4 + length]
+
+
+# ---- the rescue
+
+
+def is_found(trace, at):
+    """Whether the reader takes up again here."""
+    record = read(trace, at)
+    return record not in ("end", None) and record[0] != SESSION and record[2][:4] in (b"\xfeSMB", b"\xfdSMB")
+
+
+def rescue(trace):
+    """What comes out, or None, and the lines that are written."""
+    if len(trace) > HELD:
+        return None, "long\n"
+    if read_head(trace) is None:
+        return None, "stop 0\n"
+    out, gaps, at = [trace[:4]], [], 4
+    while at < len(trace):
+        record = read(trace, at)
+        if record is not None:
+            after = at + 4 + len(record[2])
+            out.append(trace[at:after])
+        else:
+            after = next((place for place in range(at + 1, len(trace)) if is_found(trace, place)), len(trace))
+            gaps.append(f"{at} {after - at}\n")
+        at = after
+    return b"".join(out), "".join(gaps)
 
 
 # ---- the replay

@@ -73,3 +73,22 @@ uint32_t __wrap_smb3seal_trace_read(const uint8_t *trace, size_t trace_len, size
     if (fault("trace_read: a refusal says a length of 0") && r != 0) *payload_len = 0;
     return r;
 }
+
+uint32_t __real_smb3seal_trace_rescue(const uint8_t *, size_t, uint8_t *, size_t, uint64_t *, size_t, size_t *, size_t *);
+uint32_t __wrap_smb3seal_trace_rescue(const uint8_t *trace, size_t trace_len, uint8_t *rescued, size_t rescued_len, uint64_t *gaps,
+                                      size_t gaps_len, size_t *written, size_t *count)
+{
+    if (fault("trace_rescue: the last byte of room is not used") && rescued_len > 0) rescued_len--;
+    if (fault("trace_rescue: a list that is just enough is refused") && gaps_len > 0) gaps_len--;
+    if (fault("trace_rescue: a trace over 65,536 bytes is refused") && trace_len > 65536) return 36;
+    uint32_t r = __real_smb3seal_trace_rescue(trace, trace_len, rescued, rescued_len, gaps, gaps_len, written, count);
+    if (fault("trace_rescue: a refusal writes the head") && r != 0 && trace_len >= 4 && rescued_len >= 4) memcpy(rescued, trace, 4);
+    if (fault("trace_rescue: a refusal says that nothing was written") && r != 0) *written = 0;
+    if (fault("trace_rescue: a refusal says that there is no gap") && r != 0) *count = 0;
+    if (r != 0) return r;
+    if (fault("trace_rescue: edition 1 comes out as 2") && rescued[0] == 1) rescued[0] = 2;
+    if (fault("trace_rescue: a gap's place is its end") && *count > 0) gaps[0] += gaps[1];
+    if (fault("trace_rescue: a gap at the end is not listed") && *count > 0 && gaps[2 * *count - 2] + gaps[2 * *count - 1] == trace_len) --*count;
+    if (fault("trace_rescue: the last byte is not counted") && *count > 0) --*written;
+    return r;
+}

@@ -1,5 +1,5 @@
 /*
- * Lab traces: the reader and the writer from C beside a second one that is written here, on random traces of both editions, every head of
+ * Lab traces: the reader and the writer from C beside a second one (trace_format.c), on random traces of both editions, every head of
  * one byte changed, every room and every cut of a small trace. After a refusal all that was lent is as it was.
  *
  * Usage: trace_test [SEED [CASES]]
@@ -9,81 +9,16 @@
 
 #include "../include/smb3seal.h"
 #include "check.h"
+#include "trace_format.h"
 
-enum { CASES = 100000, HEAD = 4, LONGEST = 8454196, WRITTEN = 2 };
-
-/* Of editions 1 and 2: the zero bits below the length, and the longest payload. */
-static const struct { uint32_t zeros, longest; } editions[] = {[1] = {7, 1048628}, [2] = {4, LONGEST}};
-
-/* ---- the format a second time: all the places that a call lends, and what it returns */
-
-struct record {
-    uint32_t number;
-    size_t at, payload, payload_len;
-    uint32_t kind, from_server;
-};
-
-static uint32_t head_at(const uint8_t *b)
-{
-    return (uint32_t)b[0] << 24 | (uint32_t)b[1] << 16 | (uint32_t)b[2] << 8 | b[3];
-}
-
-static int known(uint8_t edition)
-{
-    return edition == 1 || edition == 2;
-}
-
-static int admitted(uint8_t edition, uint32_t kind, size_t len)
-{
-    return kind == 3 ? len == 24 : kind < 3 && len >= 1 && len <= editions[edition].longest;
-}
-
-static void put_head(uint8_t edition, uint32_t kind, uint32_t from_server, size_t len, uint8_t *at)
-{
-    uint32_t head = kind << 29 | (uint32_t)(from_server != 0) << 28 | (uint32_t)len << editions[edition].zeros;
-    for (int i = 0; i < HEAD; i++) at[i] = (uint8_t)(head >> (24 - 8 * i));
-}
-
-static struct record model_read(const uint8_t *trace, size_t n, struct record lent)
-{
-    struct record refused = lent;
-    refused.number = 36;
-    lent.number = 0;
-    if (n < HEAD || !known(trace[0])) return refused;
-    if (lent.at >= n) {
-        lent.payload_len = 0;
-        return lent;
-    }
-    if (n - lent.at < HEAD) return refused;
-    uint32_t head = head_at(trace + lent.at), zeros = editions[trace[0]].zeros, len = (head & 0xFFFFFFF) >> zeros;
-    if (head % (1u << zeros) != 0 || !admitted(trace[0], head >> 29, len) || n - lent.at - HEAD < len) return refused;
-    return (struct record){0, lent.at + HEAD + len, lent.at + HEAD, len, head >> 29, (head >> 28) & 1};
-}
-
-static uint32_t model_write(uint8_t edition, uint32_t kind, uint32_t from_server, const uint8_t *payload, size_t len, uint8_t *room,
-                            size_t n, size_t *at)
-{
-    if (!admitted(edition, kind, len) || *at > n || n - *at < HEAD || n - *at - HEAD < len) return 36;
-    put_head(edition, kind, from_server, len, room + *at);
-    memcpy(room + *at + HEAD, payload, len);
-    *at += HEAD + len;
-    return 0;
-}
+enum { CASES = 100000 };
 
 /* ---- one call by both */
 
-static uint8_t *copy_of(const uint8_t *bytes, size_t n)
+static struct trace_record read_both(const uint8_t *trace, size_t n, size_t at)
 {
-    uint8_t *copy = malloc(n > 0 ? n : 1);
-    if (copy == NULL) fail("no memory", n);
-    memcpy(copy, bytes, n);
-    return copy;
-}
-
-static struct record read_both(const uint8_t *trace, size_t n, size_t at)
-{
-    struct record lent = {0, at, (size_t)number(), (size_t)number(), (uint32_t)number(), (uint32_t)number()};
-    struct record expected = model_read(trace, n, lent), got = lent;
+    struct trace_record lent = {0, at, (size_t)number(), (size_t)number(), (uint32_t)number(), (uint32_t)number()};
+    struct trace_record expected = model_trace_read(trace, n, lent), got = lent;
     uint8_t *copy = copy_of(trace, n);
     got.number = smb3seal_trace_read(copy, n, &got.at, &got.kind, &got.from_server, &got.payload, &got.payload_len);
     expect(got.number == expected.number, "trace_read: its number", got.number);
@@ -100,7 +35,7 @@ static void read_head_both(const uint8_t *trace, size_t n)
     uint16_t dialect = (uint16_t)number(), cipher = (uint16_t)number(), lent_dialect = dialect, lent_cipher = cipher;
     uint8_t *copy = copy_of(trace, n);
     uint32_t r = smb3seal_trace_read_head(copy, n, &dialect, &cipher);
-    int good = n >= HEAD && known(trace[0]);
+    int good = n >= HEAD && known_edition(trace[0]);
     expect(r == (good ? 0u : 36u), "trace_read_head: its number", r);
     expect(dialect == (good ? trace[1] << 8 | trace[2] : lent_dialect), "trace_read_head: the dialect", dialect);
     expect(cipher == (good ? trace[3] : lent_cipher), "trace_read_head: the cipher", cipher);
@@ -111,7 +46,7 @@ static uint32_t write_both(uint32_t kind, uint32_t from_server, const uint8_t *p
 {
     uint8_t *copy = copy_of(room, n), *lent = copy_of(payload, len);
     size_t place = *at;
-    uint32_t expected = model_write(WRITTEN, kind, from_server, payload, len, room, n, at);
+    uint32_t expected = model_trace_record(WRITTEN, kind, from_server, payload, len, room, n, at);
     uint32_t r = smb3seal_trace_record(kind, from_server, lent, len, copy, n, &place);
     expect(r == expected, "trace_record: its number", r);
     expect(place == *at, "trace_record: the next place", place);
@@ -145,7 +80,7 @@ static uint32_t write_in(uint8_t edition, uint32_t kind, uint32_t from_server, c
                          size_t *at)
 {
     if (edition == WRITTEN) return write_both(kind, from_server, payload, len, room, n, at);
-    return model_write(edition, kind, from_server, payload, len, room, n, at);
+    return model_trace_record(edition, kind, from_server, payload, len, room, n, at);
 }
 
 /* A list of calls of the writer, refused ones among them; then everything that was accepted is read again. */
@@ -174,7 +109,7 @@ static void random_trace(void)
         memcpy(kept[count++].bytes, payload, len);
     }
     read_head_both(room, at);
-    struct record r = {0, HEAD, 0, 0, 0, 0};
+    struct trace_record r = {0, HEAD, 0, 0, 0, 0};
     for (size_t i = 0; i < count; i++) {
         r = read_both(room, at, r.at);
         expect(r.number == 0 && r.kind == kept[i].kind && (int)r.from_server == kept[i].from_server, "what was written is read", i);
@@ -225,7 +160,7 @@ static void limits(void)
                 write_both(kind, 1, payload, len, room, at + left, &at);
             }
     for (uint8_t edition = 1; edition <= 2; edition++)
-        for (size_t len = editions[edition].longest; len <= editions[edition].longest + 1; len++) {
+        for (size_t len = longest_payload(edition); len <= longest_payload(edition) + 1; len++) {
             memcpy(room, (uint8_t[]){edition, 3, 17, 1}, HEAD);
             put_head(edition, 2, 1, len, room + HEAD);
             read_both(room, HEAD + HEAD + len, HEAD);

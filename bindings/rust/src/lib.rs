@@ -58,7 +58,7 @@ pub use refusal::Refusal;
 pub use sealer::Sealer;
 pub use signing::{sign, verify};
 pub use table::{Login, Opened, Session, Sessions, Table};
-pub use trace::{TraceKind, TraceReader, TraceRecord, TraceWriter};
+pub use trace::{rescue_trace, Rescued, TraceKind, TraceReader, TraceRecord, TraceWriter};
 
 use std::fmt;
 

@@ -134,6 +134,9 @@ chosen false false k′ q′ n′ r′ k q n r d′ d e = absurd (let z : _≡_ 
 
 -- its payload is n bytes from q on, inside the file, of a length that its kind admits; the next record begins at r
 pub record Was (e : Edition) (f : Bytes) (p k q n r : ℕ) : Type 0 where
+  pub is-readable : readable e (drop p f) ≡ true
+  pub kind : kindIn (headIn (drop p f)) ≡ k
+  pub size : lengthIn e (headIn (drop p f)) ≡ n
   pub admits : admitted e k n ≡ true
   pub from : q ≡ p + 4
   pub next : r ≡ p + 4 + n
@@ -154,7 +157,15 @@ was e f p k d q n r t =
     let l = length-drop p f in
     let z = c .3 in
     let y = c .4 in
-    record { admits = ap₂ (admitted e) (sym (c .1)) (sym (c .3)) ∙ good-admits e s (g .0); from = sym (c .2); next = omega arith; inside = omega arith }
+    record {
+      is-readable = c .0;
+      kind = c .1;
+      size = c .3;
+      admits = ap₂ (admitted e) (sym (c .1)) (sym (c .3)) ∙ good-admits e s (g .0);
+      from = sym (c .2);
+      next = omega arith;
+      inside = omega arith;
+    }
 
 not-end-of : (b : Bool) (x : Reading) → (end ≡ x → ⊥) → end ≡ cond b x unreadable → ⊥
 not-end-of true x n e = n e
