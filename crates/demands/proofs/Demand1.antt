@@ -9,7 +9,8 @@ use Rattle.protocol.specs.Bytes.{Bytes}
 use Rattle.protocol.specs.Answer.{Answer, done, carried}
 use Rattle.protocol.specs.Preauth.{FoldKind, statusAllows}
 use Rattle.protocol.specs.Transform.{Primitives}
-use Rattle.protocol.specs.Calls.{Call, derivation, folding, sealingUnder, openingUnder, signingUnder, verifyingUnder, adding, removing, stepping}
+use Rattle.protocol.specs.Calls.{Call, derivation, folding, foldBeginning, foldPiece, foldFinishing, sealingUnder, openingUnder, signingUnder}
+use Rattle.protocol.specs.Calls.{verifyingUnder, adding, removing, stepping}
 use Rattle.protocol.specs.Calls.{sealing, opening, Lent, withChain, sealTests, openTests, tests, effect, answer, left}
 use Rattle.protocol.specs.Suite.{suite}
 use Rattle.demands.specs.Lines.{None, no-line}
@@ -22,6 +23,9 @@ module _ (P : Primitives) where
   unfolding tests sealTests openTests
   orders (derivation dialect chain material) w = refl
   orders (folding kind m) w = refl
+  orders (foldBeginning v) w = refl
+  orders (foldPiece p) w = refl
+  orders (foldFinishing kind) w = refl
   orders (sealingUnder c key id) w = refl
   orders (openingUnder c key id) w = refl
   orders (signingUnder key) w = refl

@@ -15,7 +15,8 @@ use Rattle.protocol.specs.Connection.{Connection, lastCounter}
 use Rattle.protocol.specs.SessionTable.{Session, freeRecord, withCounter, isSession, recordOf, changeRecord, hasFree, fillFree, Adding, newRecord, countUp}
 use Rattle.protocol.specs.SessionTable.{counterStep}
 use Rattle.protocol.specs.Transform.{Primitives}
-use Rattle.protocol.specs.Calls.{Call, derivation, folding, sealingUnder, openingUnder, signingUnder, verifyingUnder, adding, removing, stepping}
+use Rattle.protocol.specs.Calls.{Call, derivation, folding, foldBeginning, foldPiece, foldFinishing, sealingUnder, openingUnder, signingUnder}
+use Rattle.protocol.specs.Calls.{verifyingUnder, adding, removing, stepping}
 use Rattle.protocol.specs.Calls.{sealing, opening, Lent, withTable, sealTests, tests, effect, answer, left}
 use Rattle.demands.specs.Chains.{Among}
 use Rattle.demands.specs.Steps.{Step, onTable, tableLeft, made}
@@ -162,6 +163,9 @@ module _ (P : Primitives) where
     unfolding effect
     follows (derivation dialect chain material) w h k = alone _ w refl
     follows (folding kind m) w h k = alone _ w refl
+    follows (foldBeginning v) w h k = alone _ w refl
+    follows (foldPiece p) w h k = alone _ w refl
+    follows (foldFinishing kind) w h k = alone _ w refl
     follows (sealingUnder c key id) w h k = alone _ w refl
     follows (openingUnder c key id) w h k = alone _ w refl
     follows (signingUnder key) w h k = alone _ w refl

@@ -15,11 +15,12 @@ use Rattle.protocol.specs.InnerHeader.{Envelope}
 use Rattle.protocol.specs.Compound.{walk}
 use Rattle.protocol.specs.Keys.{sessionKey, derivedKeys, keysInOrder}
 use Rattle.protocol.specs.Preauth.{FoldKind, folded, foldMark}
+use Rattle.protocol.specs.Pieces.{Underway, begunFrom, notBegun, messageOf, withPiece, finishedValue}
 use Rattle.protocol.specs.Signing.{signatureUnder, signedUnder}
 use Rattle.protocol.specs.SessionTable.{Session, sealingKey, openingKey, recordOf, changeRecord, removeRecord, hasFree, fillFree, Adding, newRecord}
 use Rattle.protocol.specs.SessionTable.{countUp, counterStep}
 use Rattle.protocol.specs.Refusals.{notEncrypting, tooShort, tooLong, notTransform, badFlags, dirtyNonce, otherSession, constrained, guest, badTag, badSize}
-use Rattle.protocol.specs.Refusals.{counterUsedUp, unknownDialect, noKeyMaterial, idZero, idTaken, tableFull, foldLength, badLength}
+use Rattle.protocol.specs.Refusals.{counterUsedUp, unknownDialect, noKeyMaterial, idZero, idTaken, tableFull, foldLength, pieceLength, badLength}
 use Rattle.protocol.specs.Refusals.{innerTooShort, notHeader, notSigned, badSignature}
 use Rattle.protocol.specs.Transform.{Primitives, sealedUnder, plaintextUnder, openedTo}
 
@@ -29,6 +30,10 @@ pub data Call : Type 0 where
   -- dialect, chain value, key material
   derivation : ℕ → Bytes → Bytes → Call
   folding : FoldKind → Bytes → Call
+  -- a message folded as it arrives: begun on a chain value, a piece of it, its finish
+  foldBeginning : Bytes → Call
+  foldPiece : Bytes → Call
+  foldFinishing : FoldKind → Call
   -- under one given key, for a session id
   sealingUnder : Connection → Bytes → ℕ → Call
   openingUnder : Connection → Bytes → ℕ → Call
@@ -43,47 +48,59 @@ pub data Call : Type 0 where
   sealing : Connection → ℕ → Call
   opening : Connection → Call
 
--- all that a call may be lent to change: "the message buffer, the table, the chain, the place for the keys and a handed-in counter"
+-- all that a call may be lent to change: "the message buffer, the table, the chain, the place for the keys and a handed-in counter"; and what
+-- the hash state stands for that is "handed on from piece to piece"
 pub record Lent : Type 0 where
   pub message : Bytes
   pub table : List Session
   pub chain : Bytes
   pub keys : Bytes
   pub counter : ℕ
+  pub underway : Underway
 
 -- what a call is lent that is lent nothing but this
 abbrev pub onlyMessage : Bytes → Lent
-onlyMessage m = record { message = m; table = []; chain = []; keys = []; counter = 0 }
+onlyMessage m = record { message = m; table = []; chain = []; keys = []; counter = 0; underway = notBegun }
 
 abbrev pub messageAndCounter : Bytes → ℕ → Lent
-messageAndCounter m k = record { message = m; table = []; chain = []; keys = []; counter = k }
+messageAndCounter m k = record { message = m; table = []; chain = []; keys = []; counter = k; underway = notBegun }
 
 abbrev pub messageAndTable : Bytes → List Session → Lent
-messageAndTable m t = record { message = m; table = t; chain = []; keys = []; counter = 0 }
+messageAndTable m t = record { message = m; table = t; chain = []; keys = []; counter = 0; underway = notBegun }
 
 abbrev pub onlyTable : List Session → Lent
-onlyTable t = record { message = []; table = t; chain = []; keys = []; counter = 0 }
+onlyTable t = record { message = []; table = t; chain = []; keys = []; counter = 0; underway = notBegun }
 
 abbrev pub onlyChain : Bytes → Lent
-onlyChain v = record { message = []; table = []; chain = v; keys = []; counter = 0 }
+onlyChain v = record { message = []; table = []; chain = v; keys = []; counter = 0; underway = notBegun }
+
+-- a message under way, and a chain value with one
+abbrev pub onlyUnderway : Underway → Lent
+onlyUnderway u = record { message = []; table = []; chain = []; keys = []; counter = 0; underway = u }
+
+abbrev pub chainAndUnderway : Bytes → Underway → Lent
+chainAndUnderway v u = record { message = []; table = []; chain = v; keys = []; counter = 0; underway = u }
 
 abbrev pub onlyKeys : Bytes → Lent
-onlyKeys k = record { message = []; table = []; chain = []; keys = k; counter = 0 }
+onlyKeys k = record { message = []; table = []; chain = []; keys = k; counter = 0; underway = notBegun }
 
 abbrev pub withMessage : Bytes → Lent → Lent
-withMessage m w = record { message = m; table = w .table; chain = w .chain; keys = w .keys; counter = w .counter }
+withMessage m w = record { message = m; table = w .table; chain = w .chain; keys = w .keys; counter = w .counter; underway = w .underway }
 
 abbrev pub withTable : List Session → Lent → Lent
-withTable t w = record { message = w .message; table = t; chain = w .chain; keys = w .keys; counter = w .counter }
+withTable t w = record { message = w .message; table = t; chain = w .chain; keys = w .keys; counter = w .counter; underway = w .underway }
 
 abbrev pub withChain : Bytes → Lent → Lent
-withChain v w = record { message = w .message; table = w .table; chain = v; keys = w .keys; counter = w .counter }
+withChain v w = record { message = w .message; table = w .table; chain = v; keys = w .keys; counter = w .counter; underway = w .underway }
 
 abbrev pub withKeys : Bytes → Lent → Lent
-withKeys k w = record { message = w .message; table = w .table; chain = w .chain; keys = k; counter = w .counter }
+withKeys k w = record { message = w .message; table = w .table; chain = w .chain; keys = k; counter = w .counter; underway = w .underway }
 
 abbrev pub withCounter : ℕ → Lent → Lent
-withCounter n w = record { message = w .message; table = w .table; chain = w .chain; keys = w .keys; counter = n }
+withCounter n w = record { message = w .message; table = w .table; chain = w .chain; keys = w .keys; counter = n; underway = w .underway }
+
+abbrev pub withUnderway : Underway → Lent → Lent
+withUnderway u w = record { message = w .message; table = w .table; chain = w .chain; keys = w .keys; counter = w .counter; underway = u }
 
 -- ---- what a call tests: lines of the table of numbers, the walk if there is one, lines after it
 
@@ -121,6 +138,10 @@ keyTests key = badLength (eqb (length key) 16) ∷ []
 
 abbrev pub chainTests : Bytes → List Test
 chainTests v = badLength (eqb (length v) 64) ∷ []
+
+-- 40, 23: every fold of the message m into the value v; "23 is tested before the status"
+abbrev pub foldTests : FoldKind → Bytes → Bytes → Tests
+foldTests kind v m = record { before = chainTests v ++ (foldLength m ∷ []); walked = carries (foldMark kind m); later = [] }
 
 -- 1 to 3: every sealing and opening of the buffer m
 abbrev pub messageTests : Connection → Bytes → List Test
@@ -187,8 +208,11 @@ module _ (P : Primitives) where
   unfoldable pub tests : Call → Lent → Tests
   tests (derivation dialect chain material) w =
       lines (derivationTests dialect chain material (w .keys))
-  -- 40, 23; "23 is tested before the status"
-  tests (folding kind m) w = record { before = chainTests (w .chain) ++ (foldLength m ∷ []); walked = carries (foldMark kind m); later = [] }
+  tests (folding kind m) w = foldTests kind (w .chain) m
+  tests (foldBeginning v) w = lines (chainTests v)
+  tests (foldPiece p) w = lines (pieceLength (w .underway) p ∷ [])
+  -- "finishing under 64 bytes is 23 too"
+  tests (foldFinishing kind) w = foldTests kind (w .chain) (messageOf (w .underway))
   -- "Under one given key, 7 and 8 do not arise", and "sealing has no 6"
   tests (sealingUnder c key id) w =
       record {
@@ -217,6 +241,10 @@ module _ (P : Primitives) where
   unfoldable pub effect : Call → Lent → Lent
   effect (derivation dialect chain material) w = withKeys (keysInOrder (derivedKeys (P .kdf) dialect chain (sessionKey material))) w
   effect (folding kind m) w = withChain (folded (P .sha512) kind (w .chain) m) w
+  effect (foldBeginning v) w = withUnderway (begunFrom v) w
+  effect (foldPiece p) w = withUnderway (withPiece p (w .underway)) w
+  -- the state that it is handed is used up: what it hands back is `notBegun`, whatever it answers
+  effect (foldFinishing kind) w = withChain (finishedValue (P .sha512) kind (w .chain) (w .underway)) w
   effect (sealingUnder c key id) w =
       withCounter (w .counter + 1) (withMessage (sealedUnder (P .ciphers) (cipherUsed c) key (w .counter) id (inner (w .message))) w)
   effect (openingUnder c key id) w = withMessage (openedTo (w .message) (plaintextUnder (P .ciphers) (cipherUsed c) key (w .message))) w

@@ -5,6 +5,7 @@ pub mod TransformHeader
 pub mod InnerHeader
 pub mod Keys
 pub mod Preauth
+pub mod Pieces
 pub mod Signing
 pub mod SessionTable
 pub mod Refusals

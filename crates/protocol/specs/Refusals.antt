@@ -14,6 +14,7 @@ use Rattle.protocol.specs.Connection.{Connection, knownDialect, encrypts
 use Rattle.protocol.specs.TransformHeader.{TransformHeader}
 use Rattle.protocol.specs.InnerHeader.{isInnerHeader, isRelated, Envelope, belongs}
 use Rattle.protocol.specs.Preauth.{admitted}
+use Rattle.protocol.specs.Pieces.{Underway, pieceFits}
 use Rattle.protocol.specs.Signing.{isSigned, signatureField}
 use Rattle.protocol.specs.SessionTable.{Session}
 
@@ -113,6 +114,10 @@ tableFull room = refuse 22 when not room
 -- "folding: message under 64 or over 1,048,576 bytes"
 abbrev pub foldLength : Bytes → Test
 foldLength m = refuse 23 when not (admitted m)
+
+-- "A piece that would pass the length limit is 23"
+abbrev pub pieceLength : Underway → Bytes → Test
+pieceLength u p = refuse 23 when not (pieceFits u p)
 
 -- "the signed flag is missing"
 abbrev pub notSigned : Bytes → Test
