@@ -30,7 +30,7 @@ fold-by a true false x w e = rw e
 fold-by a false c x w e = rw e
 
 module _ (P : Primitives) where
-  fold-left : (v : Bytes) (kind : FoldKind) (m : Bytes) → length v ≡ 64
+  pub fold-left : (v : Bytes) (kind : FoldKind) (m : Bytes) → length v ≡ 64
       → (left P (folding kind m) (onlyChain v)) .chain ≡ cond (goesIn kind m) (P .sha512 (v ++ m)) v
   unfolding tests effect
   fold-left v kind m l = fold-by (eqb (length v) 64) (admitted m) (statusAllows kind m) (P .sha512 (v ++ m)) (onlyChain v) (eq-eqb (length v) 64 l)
@@ -50,21 +50,20 @@ module _ (P : Primitives) where
       go true f = ap (λ (s : Bytes). cond (goesIn kind (u .joined)) (P .sha512 (s ++ u .joined)) v) (f refl)
       go false f = refl
 
-  pub finish-left : (v : Bytes) (kind : FoldKind) (u : Underway) → length v ≡ 64 → FromValue v u
-      → (left P (foldFinishing kind) (chainAndUnderway v u)) .chain ≡ cond (goesIn kind (messageOf u)) (P .sha512 (v ++ messageOf u)) v
+  pub finish-any : (x : Bytes) (kind : FoldKind) (u : Underway) → length x ≡ 64
+      → (left P (foldFinishing kind) (chainAndUnderway x u)) .chain ≡ cond (goesIn kind (messageOf u)) (P .sha512 (u .start ++ messageOf u)) x
   unfolding tests effect finishedValue
-  finish-left v kind u l h =
-      fold-by (eqb (length v) 64) (admitted (messageOf u)) (statusAllows kind (messageOf u)) (P .sha512 (u .start ++ messageOf u)) (chainAndUnderway v u)
-      (eq-eqb (length v) 64 l)
-      ∙ from-value v kind u h
+  finish-any x kind u l =
+      fold-by (eqb (length x) 64) (admitted (messageOf u)) (statusAllows kind (messageOf u)) (P .sha512 (u .start ++ messageOf u)) (chainAndUnderway x u)
+      (eq-eqb (length x) 64 l)
 
-  pub finish-is : (v : Bytes) (kind : FoldKind) (u : Underway) → length v ≡ 64 → FromValue v u
-      → (left P (foldFinishing kind) (chainAndUnderway v u)) .chain ≡ (left P (folding kind (messageOf u)) (onlyChain v)) .chain
-  finish-is v kind u l h = finish-left v kind u l h ∙ sym (fold-left v kind (messageOf u) l)
+  finish-left : (v : Bytes) (kind : FoldKind) (u : Underway) → length v ≡ 64 → FromValue v u
+      → (left P (foldFinishing kind) (chainAndUnderway v u)) .chain ≡ cond (goesIn kind (messageOf u)) (P .sha512 (v ++ messageOf u)) v
+  finish-left v kind u l h = finish-any v kind u l ∙ from-value v kind u h
 
   -- ---- a message under way keeps the value that it began from
 
-  pub begun-from : (v : Bytes) (w : Lent) → FromValue v (w .underway) → FromValue v ((left P (foldBeginning v) w) .underway)
+  begun-from : (v : Bytes) (w : Lent) → FromValue v (w .underway) → FromValue v ((left P (foldBeginning v) w) .underway)
   unfolding effect
   begun-from v w h = go (answer P (foldBeginning v) w)
     where
@@ -72,7 +71,7 @@ module _ (P : Primitives) where
       go (done n) = λ e. refl
       go (refused n) = h
 
-  pub piece-from : (v p : Bytes) (w : Lent) → FromValue v (w .underway) → FromValue v ((left P (foldPiece p) w) .underway)
+  piece-from : (v p : Bytes) (w : Lent) → FromValue v (w .underway) → FromValue v ((left P (foldPiece p) w) .underway)
   unfolding effect withPiece
   piece-from v p w h = go (answer P (foldPiece p) w)
     where

@@ -10,6 +10,7 @@ pub mod Signing
 pub mod Demand2
 pub mod ChainLaws
 pub mod FoldLaws
+pub mod PieceLaws
 pub mod TableLaws
 pub mod Following
 pub mod OpeningLaws

@@ -5,6 +5,7 @@ pub mod Opening
 pub mod Verifying
 pub mod Demand2
 pub mod Chains
+pub mod Pieces
 pub mod Steps
 pub mod Demand3
 pub mod OtherRecords
