@@ -129,9 +129,9 @@ module _ (P : Primitives) where
         same-answer = λ kind v ps l. answer-is v l ps kind;
         same-value = λ kind v ps l. finished-is v l ps kind v l ∙ sym (fold-left P v kind (messageJoined P v ps) l);
         from-start = λ kind v x ps l k g.
-        finished-is v l ps kind x k
-        ∙ ap (λ (b : Bool). cond b (P .sha512 (v ++ messageJoined P v ps)) x) g
-        ∙ sym (fold-left P v kind (messageJoined P v ps) l ∙ ap (λ (b : Bool). cond b (P .sha512 (v ++ messageJoined P v ps)) v) g);
+            finished-is v l ps kind x k
+            ∙ ap (λ (b : Bool). cond b (P .sha512 (v ++ messageJoined P v ps)) x) g
+            ∙ sym (fold-left P v kind (messageJoined P v ps) l ∙ ap (λ (b : Bool). cond b (P .sha512 (v ++ messageJoined P v ps)) v) g);
         all-taken = λ v ps l h. rw (begun-is v l) (none-refused ps (begunFrom v) refl (omega (arith, h)));
         begin-leaves = λ v w. left-alone P (foldBeginning v) w (λ (x : Lent). x .chain) refl;
         piece-leaves = λ p w. left-alone P (foldPiece p) w (λ (x : Lent). x .chain) refl;
