@@ -6,6 +6,13 @@
  *     smb3seal_fold            a negotiate message or a session setup request
  *     smb3seal_fold_response   a session setup response
  *
+ * or in the chunks in which a message arrives, with a state that is handed on from piece to piece:
+ *
+ *     smb3seal_fold_begin            a message begins from a chain value
+ *     smb3seal_fold_piece            the next bytes of it
+ *     smb3seal_fold_finish           all of it folded: a negotiate message or a session setup request
+ *     smb3seal_fold_response_finish  all of it folded: a session setup response
+ *
  * With a session table, an array that the program owns, the library keeps keys and send counters in it and picks the right ones:
  *
  *     smb3seal_table_add       a session put into the table, with its four keys
@@ -43,8 +50,9 @@
  * - Buffers and table of one call do not overlap, a lent number (counter, headers, folded, at) lies in none of them, and each pointer has
  *   as many bytes or records behind it as its length says. The library cannot check this, nor that a counter value is new under its
  *   key, nor that a table is the one that the call before left.
- * - Each function but smb3seal_table_find returns SMB3SEAL_DONE (0), or the number of the one reason for which it refused. After a
- *   refusal every byte and every number that was lent is as it was: message, table, counter, headers, folded, chain, keys, trace.
+ * - Each function but smb3seal_table_find returns SMB3SEAL_DONE (0), or the number of the one reason for which it refused; those for
+ *   pieces return it as the `number` of a step, beside the state. After a refusal every byte and every number that was lent is as it
+ *   was: message, table, counter, headers, folded, chain, keys, trace.
  * - Where several reasons apply, SMB3SEAL_BAD_LENGTH comes first and then the lowest number wins; but 29 stands between 5 and 6, and the
  *   walk over the headers of a compounded message ends at the first header that breaks a rule.
  *
@@ -182,7 +190,7 @@ extern "C" {
 #define SMB3SEAL_TABLE_FULL 22 /* no record is free for the session to add */
 
 /* Folding. Disconnect: no negotiate or session setup message has such a length. */
-#define SMB3SEAL_FOLD_LENGTH 23 /* the message has under 64 or over 1,048,576 bytes */
+#define SMB3SEAL_FOLD_LENGTH 23 /* the message has under 64 or over 1,048,576 bytes, or would with this piece */
 
 /* Verifying. A server fails the request with STATUS_ACCESS_DENIED, a client discards the message; both may disconnect. */
 #define SMB3SEAL_NOT_SIGNED 24    /* the signed flag (0x00000008 of Flags, bytes 16..20) is missing */
@@ -221,6 +229,84 @@ uint32_t smb3seal_fold(uint8_t *chain, size_t chain_len, const uint8_t *message,
  * Answers 0, or 40, 23.
  */
 uint32_t smb3seal_fold_response(uint8_t *chain, size_t chain_len, const uint8_t *message, size_t message_len, uint32_t *folded);
+
+/*
+ * ---- folding a message as it arrives
+ *
+ * The pieces of a message may be cut anywhere, and may be empty. The program begins with the chain value, hands each piece over as it
+ * comes, and finishes; the chain then holds what one smb3seal_fold of all the pieces would have left. To give a message up needs no
+ * call: the chain is as it was.
+ *
+ *     struct smb3seal_fold_step step = smb3seal_fold_begin(chain, sizeof chain);
+ *     while (step.number == 0 && (n = recv(.., bytes, ..)) > 0) step = smb3seal_fold_piece(step.state, bytes, n);
+ *     if (step.number == 0) step = smb3seal_fold_finish(step.state, chain, sizeof chain);
+ *     if (step.number != 0) ..
+ *
+ * A state goes in by value and the one to go on with comes back: hand in the latest, and each once. It is the library's: a program
+ * stores it, copies it and wipes it, and never looks inside. Any bytes are a state and get an answer; one of zero bytes has no message
+ * under way, and so has one that a refused begin or any finish handed back: a piece and a finish are then 23.
+ *
+ * After a refused piece the message goes on without that piece, and a finish folds the rest. That is not the message that the peer
+ * sent: give it up, and disconnect. And finish or give up one message before another goes into the same chain.
+ */
+
+struct smb3seal_fold_state {
+    uint64_t hash[8];
+    uint8_t buffer[128];
+    uint64_t count;
+    size_t joined;
+    uint8_t head[12];
+    uint8_t underway;
+    uint8_t spare[3];
+};
+
+struct smb3seal_fold_step {
+    struct smb3seal_fold_state state; /* to go on with */
+    uint32_t number;                  /* SMB3SEAL_DONE, or why it was refused */
+    uint32_t folded;                  /* of a finish: 1 if the message was folded, 0 if not; of the others 0 */
+};
+
+/*
+ * Begins a message on a chain value.
+ *
+ * chain  reads: the value, SMB3SEAL_CHAIN_BYTES long
+ *
+ * Answers 0, or 40.
+ */
+struct smb3seal_fold_step smb3seal_fold_begin(const uint8_t *chain, size_t chain_len);
+
+/*
+ * Takes the next bytes of the message. A piece with which it would have more than SMB3SEAL_LONGEST_MESSAGE bytes is refused, and the
+ * state handed back is the one handed in.
+ *
+ * state  the one that the call before handed back
+ * piece  reads: the bytes, of any length
+ *
+ * Answers 0, or 23.
+ */
+struct smb3seal_fold_step smb3seal_fold_piece(struct smb3seal_fold_state state, const uint8_t *piece, size_t piece_len);
+
+/*
+ * Folds the message, a negotiate request or response or a session setup request: the chain becomes SHA-512 of the value that the
+ * message began from, followed by the pieces. Ends the message, whatever the answer.
+ *
+ * state  the one that the call before handed back
+ * chain  writes: the value, SMB3SEAL_CHAIN_BYTES long; lend the chain that the message began from
+ *
+ * Answers 0, or 40, 23.
+ */
+struct smb3seal_fold_step smb3seal_fold_finish(struct smb3seal_fold_state state, uint8_t *chain, size_t chain_len);
+
+/*
+ * The same for a session setup response, which is folded only if its Status, wherever it was cut, is STATUS_MORE_PROCESSING_REQUIRED
+ * (0xC0000016). Else the chain stays as it is, and `folded` is 0; both are done.
+ *
+ * state  the one that the call before handed back
+ * chain  writes: the value, SMB3SEAL_CHAIN_BYTES long; lend the chain that the message began from
+ *
+ * Answers 0, or 40, 23.
+ */
+struct smb3seal_fold_step smb3seal_fold_response_finish(struct smb3seal_fold_state state, uint8_t *chain, size_t chain_len);
 
 /*
  * Derives the four keys of a session (MS-SMB2 3.1.4.2, 3.2.5.3.1), each of 16 bytes.
