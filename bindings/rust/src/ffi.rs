@@ -25,6 +25,25 @@ pub struct Session {
     pub spare: [u8; 5],
 }
 
+#[derive(Clone, Copy)]
+#[repr(C)]
+pub struct FoldState {
+    pub hash: [u64; 8],
+    pub buffer: [u8; 128],
+    pub count: u64,
+    pub joined: usize,
+    pub head: [u8; 12],
+    pub underway: u8,
+    pub spare: [u8; 3],
+}
+
+#[repr(C)]
+pub struct FoldStep {
+    pub state: FoldState,
+    pub number: u32,
+    pub folded: u32,
+}
+
 extern "C" {
     pub fn smb3seal_fold(
         chain: *mut u8,
@@ -39,6 +58,14 @@ extern "C" {
         message_len: usize,
         folded: *mut u32,
     ) -> u32;
+    pub fn smb3seal_fold_begin(chain: *const u8, chain_len: usize) -> FoldStep;
+    pub fn smb3seal_fold_piece(state: FoldState, piece: *const u8, piece_len: usize) -> FoldStep;
+    pub fn smb3seal_fold_finish(state: FoldState, chain: *mut u8, chain_len: usize) -> FoldStep;
+    pub fn smb3seal_fold_response_finish(
+        state: FoldState,
+        chain: *mut u8,
+        chain_len: usize,
+    ) -> FoldStep;
     pub fn smb3seal_derive(
         dialect: u16,
         material: *const u8,

@@ -45,6 +45,7 @@
 
 mod connection;
 mod ffi;
+mod pieces;
 mod refusal;
 mod sealer;
 mod signing;
@@ -52,6 +53,7 @@ mod table;
 mod trace;
 
 pub use connection::{Connection, Role};
+pub use pieces::FoldedPieces;
 pub use refusal::Refusal;
 pub use sealer::Sealer;
 pub use signing::{sign, verify};

@@ -1,7 +1,7 @@
 //! What is refused, with which number, and that a refusal changes nothing.
 use smb3seal::{
-    open, seal, sign, verify, Chain, Cipher, Dialect, Keys, Protection, Refusal, Role, Sealer,
-    HEADER_BYTES, LONGEST_MESSAGE,
+    open, seal, sign, verify, Chain, Cipher, Dialect, FoldedPieces, Keys, Protection, Refusal,
+    Role, Sealer, HEADER_BYTES, LONGEST_MESSAGE,
 };
 
 const KEY: [u8; 16] = [7; 16];
@@ -213,4 +213,32 @@ fn as_in_the_headers() {
     let cases = texts.matches("case SMB3SEAL_").count();
     assert_eq!(cases, Refusal::ALL.len() + 1, "all but SMB3SEAL_DONE");
     assert_eq!(Refusal::BAD_TAG.to_string(), "9: the tag differs");
+}
+
+#[test]
+fn messages_folded_in_pieces() {
+    let whole = vec![0xFE; LONGEST_MESSAGE];
+    let mut chain = Chain::from_bytes([9; 64]);
+    let before = chain.clone();
+    for n in [0, 63] {
+        for response in [false, true] {
+            let mut message = FoldedPieces::begin(&mut chain);
+            assert_eq!(message.piece(&whole[..n]), Ok(()));
+            let refused = if response {
+                message.finish_response().map(|_| ())
+            } else {
+                message.finish()
+            };
+            assert_eq!(refused, Err(Refusal::FOLD_LENGTH));
+            assert_eq!(chain, before);
+        }
+    }
+    let mut expected = chain.clone();
+    assert_eq!(expected.fold(&whole), Ok(()));
+    let mut message = FoldedPieces::begin(&mut chain);
+    assert_eq!(message.piece(&whole[1..]), Ok(()));
+    assert_eq!(message.piece(&whole[..2]), Err(Refusal::FOLD_LENGTH));
+    assert_eq!(message.piece(&whole[..1]), Ok(()));
+    assert_eq!(message.finish(), Ok(()));
+    assert_eq!(chain, expected);
 }
