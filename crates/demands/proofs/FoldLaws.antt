@@ -13,6 +13,7 @@ use Rattle.protocol.specs.Preauth.{freshChain, FoldKind, admitted, statusAllows
 use Rattle.protocol.specs.Transform.{Primitives}
 use Rattle.protocol.specs.Calls.{Call, derivation, folding, sealingUnder, openingUnder, signingUnder, verifyingUnder, adding, removing, stepping}
 use Rattle.protocol.specs.Calls.{sealing, opening, Lent, onlyChain, tests, effect}
+use Rattle.protocol.specs.Calls.{signBeginning, signPiece, signFinishing, verifyFinishing}
 use Rattle.demands.specs.Chains.{goesIn, foldedInBy, messagesFoldedIn, chainLeft, chainAfter, hashedWith, stringsHashed, ChainCalls, endMessages}
 use Rattle.demands.specs.Chains.{connectionChain, sessionChain, endStrings, ChainsAgree}
 use Rattle.demands.proofs.CallLaws.{left-alone}
@@ -54,6 +55,10 @@ module _ (P : Primitives) where
   folds v (openingUnder c key id) l = leaves v _ refl refl
   folds v (signingUnder key) l = leaves v _ refl refl
   folds v (verifyingUnder key) l = leaves v _ refl refl
+  folds v (signBeginning key) l = leaves v _ refl refl
+  folds v (signPiece p) l = leaves v _ refl refl
+  folds v (signFinishing u) l = leaves v _ refl refl
+  folds v (verifyFinishing u) l = leaves v _ refl refl
   folds v (adding a) l = leaves v _ refl refl
   folds v (removing i) l = leaves v _ refl refl
   folds v (stepping i by) l = leaves v _ refl refl

@@ -10,6 +10,7 @@ use Rattle.protocol.specs.Preauth.{freshChain, FoldKind, admitted, statusAllows
 use Rattle.protocol.specs.Transform.{Primitives}
 use Rattle.protocol.specs.Calls.{Call, derivation, folding, sealingUnder, openingUnder, signingUnder, verifyingUnder, adding, removing}
 use Rattle.protocol.specs.Calls.{stepping, sealing, opening, onlyChain, left}
+use Rattle.protocol.specs.Calls.{signBeginning, signPiece, signFinishing, verifyFinishing}
 
 -- ---- what a list of calls folds in. Calls that fold nothing may stand in it
 
@@ -25,6 +26,10 @@ foldedInBy (sealingUnder c key id) = []
 foldedInBy (openingUnder c key id) = []
 foldedInBy (signingUnder key) = []
 foldedInBy (verifyingUnder key) = []
+foldedInBy (signBeginning key) = []
+foldedInBy (signPiece p) = []
+foldedInBy (signFinishing u) = []
+foldedInBy (verifyFinishing u) = []
 foldedInBy (adding a) = []
 foldedInBy (removing i) = []
 foldedInBy (stepping i by) = []

@@ -21,6 +21,7 @@ use Rattle.protocol.specs.SessionTable.{countUp, counterStep}
 use Rattle.protocol.specs.Refusals.{notEncrypting, tooShort, tooLong, notTransform, badFlags, dirtyNonce, otherSession, constrained, guest, badTag, badSize}
 use Rattle.protocol.specs.Refusals.{counterUsedUp, unknownDialect, noKeyMaterial, idZero, idTaken, tableFull, foldLength, badLength}
 use Rattle.protocol.specs.Refusals.{innerTooShort, notHeader, notSigned, badSignature}
+use Rattle.protocol.specs.SigningPieces.{SigningState, begunUnder, notBegun, withPiece, pieceTests, signFinishTests, verifyFinishTests, signatureOf}
 use Rattle.protocol.specs.Transform.{Primitives, sealedUnder, plaintextUnder, openedTo}
 
 -- ---- the calls, each with all that it only reads
@@ -35,6 +36,11 @@ pub data Call : Type 0 where
   -- under one given signing key, a message in clear
   signingUnder : Bytes → Call
   verifyingUnder : Bytes → Call
+  -- the same of a message that arrives in pieces: begun under a key, a piece of it, and its end. A finish is given the state
+  signBeginning : Bytes → Call
+  signPiece : Bytes → Call
+  signFinishing : SigningState → Call
+  verifyFinishing : SigningState → Call
   -- with the session table
   adding : Adding → Call
   removing : ℕ → Call
@@ -43,47 +49,68 @@ pub data Call : Type 0 where
   sealing : Connection → ℕ → Call
   opening : Connection → Call
 
--- all that a call may be lent to change: "the message buffer, the table, the chain, the place for the keys and a handed-in counter"
+-- all that a call may be lent to change: "the message buffer, the table, the chain, the place for the keys and a handed-in counter", the
+-- state of a message that is signed in pieces and the place for its signature
 pub record Lent : Type 0 where
   pub message : Bytes
   pub table : List Session
   pub chain : Bytes
   pub keys : Bytes
   pub counter : ℕ
+  pub signing : SigningState
+  pub signature : Bytes
 
 -- what a call is lent that is lent nothing but this
 abbrev pub onlyMessage : Bytes → Lent
-onlyMessage m = record { message = m; table = []; chain = []; keys = []; counter = 0 }
+onlyMessage m = record { message = m; table = []; chain = []; keys = []; counter = 0; signing = notBegun; signature = [] }
 
 abbrev pub messageAndCounter : Bytes → ℕ → Lent
-messageAndCounter m k = record { message = m; table = []; chain = []; keys = []; counter = k }
+messageAndCounter m k = record { message = m; table = []; chain = []; keys = []; counter = k; signing = notBegun; signature = [] }
 
 abbrev pub messageAndTable : Bytes → List Session → Lent
-messageAndTable m t = record { message = m; table = t; chain = []; keys = []; counter = 0 }
+messageAndTable m t = record { message = m; table = t; chain = []; keys = []; counter = 0; signing = notBegun; signature = [] }
 
 abbrev pub onlyTable : List Session → Lent
-onlyTable t = record { message = []; table = t; chain = []; keys = []; counter = 0 }
+onlyTable t = record { message = []; table = t; chain = []; keys = []; counter = 0; signing = notBegun; signature = [] }
 
 abbrev pub onlyChain : Bytes → Lent
-onlyChain v = record { message = []; table = []; chain = v; keys = []; counter = 0 }
+onlyChain v = record { message = []; table = []; chain = v; keys = []; counter = 0; signing = notBegun; signature = [] }
 
 abbrev pub onlyKeys : Bytes → Lent
-onlyKeys k = record { message = []; table = []; chain = []; keys = k; counter = 0 }
+onlyKeys k = record { message = []; table = []; chain = []; keys = k; counter = 0; signing = notBegun; signature = [] }
 
 abbrev pub withMessage : Bytes → Lent → Lent
-withMessage m w = record { message = m; table = w .table; chain = w .chain; keys = w .keys; counter = w .counter }
+withMessage m w = record { message = m; table = w .table; chain = w .chain; keys = w .keys; counter = w .counter; signing = w .signing; signature = w .signature }
 
 abbrev pub withTable : List Session → Lent → Lent
-withTable t w = record { message = w .message; table = t; chain = w .chain; keys = w .keys; counter = w .counter }
+withTable t w = record { message = w .message; table = t; chain = w .chain; keys = w .keys; counter = w .counter; signing = w .signing; signature = w .signature }
 
 abbrev pub withChain : Bytes → Lent → Lent
-withChain v w = record { message = w .message; table = w .table; chain = v; keys = w .keys; counter = w .counter }
+withChain v w = record { message = w .message; table = w .table; chain = v; keys = w .keys; counter = w .counter; signing = w .signing; signature = w .signature }
 
 abbrev pub withKeys : Bytes → Lent → Lent
-withKeys k w = record { message = w .message; table = w .table; chain = w .chain; keys = k; counter = w .counter }
+withKeys k w = record { message = w .message; table = w .table; chain = w .chain; keys = k; counter = w .counter; signing = w .signing; signature = w .signature }
 
 abbrev pub withCounter : ℕ → Lent → Lent
-withCounter n w = record { message = w .message; table = w .table; chain = w .chain; keys = w .keys; counter = n }
+withCounter n w = record { message = w .message; table = w .table; chain = w .chain; keys = w .keys; counter = n; signing = w .signing; signature = w .signature }
+
+abbrev pub onlySigning : SigningState → Lent
+onlySigning u = record { message = []; table = []; chain = []; keys = []; counter = 0; signing = u; signature = [] }
+
+abbrev pub onlySignature : Bytes → Lent
+onlySignature place = record { message = []; table = []; chain = []; keys = []; counter = 0; signing = notBegun; signature = place }
+
+abbrev pub withSigning : SigningState → Lent → Lent
+withSigning u w =
+    record {
+      message = w .message; table = w .table; chain = w .chain; keys = w .keys; counter = w .counter; signing = u; signature = w .signature;
+    }
+
+abbrev pub withSignaturePlace : Bytes → Lent → Lent
+withSignaturePlace s w =
+    record {
+      message = w .message; table = w .table; chain = w .chain; keys = w .keys; counter = w .counter; signing = w .signing; signature = s;
+    }
 
 -- ---- what a call tests: lines of the table of numbers, the walk if there is one, lines after it
 
@@ -206,6 +233,10 @@ module _ (P : Primitives) where
       }
   tests (signingUnder key) w = lines (signTests key (w .message))
   tests (verifyingUnder key) w = lines (verifyTests key (w .message) (signatureUnder (P .cmac) key (w .message)))
+  tests (signBeginning key) w = lines (keyTests key)
+  tests (signPiece p) w = lines (pieceTests (w .signing) p)
+  tests (signFinishing u) w = lines (signFinishTests u (w .signature))
+  tests (verifyFinishing u) w = lines (verifyFinishTests u (signatureUnder (P .cmac) (u .key) (u .joined)))
   tests (adding a) w = lines (addTests a ((recordOf (a .id) (w .table)) .used) (hasFree (w .table)))
   -- "or answers 6 if there is none"
   tests (removing i) w = lines (otherSession ((recordOf i (w .table)) .used) ∷ [])
@@ -223,6 +254,10 @@ module _ (P : Primitives) where
   effect (signingUnder key) w = withMessage (signedUnder (P .cmac) key (w .message)) w
   -- it "changes no byte"
   effect (verifyingUnder key) w = w
+  effect (signBeginning key) w = withSigning (begunUnder key) w
+  effect (signPiece p) w = withSigning (withPiece p (w .signing)) w
+  effect (signFinishing u) w = withSignaturePlace (signatureOf (P .cmac) u) w
+  effect (verifyFinishing u) w = w
   effect (adding a) w = withTable (fillFree (newRecord (P .kdf) a) (w .table)) w
   effect (removing i) w = withTable (removeRecord i (w .table)) w
   effect (stepping i by) w = withTable (changeRecord (counterStep by) i (w .table)) w

@@ -8,6 +8,7 @@ pub mod Preauth
 pub mod Signing
 pub mod SessionTable
 pub mod Refusals
+pub mod SigningPieces
 pub mod Compound
 pub mod Ciphers
 pub mod Transform
