@@ -25,6 +25,7 @@ use Rattle.protocol.specs.Suite.{suite, cmac}
 use Rattle.protocol.proofs.Judging.{line}
 use Rattle.protocol.proofs.SuiteLaws.{cmac-is, suite-sound}
 use Rattle.protocol.proofs.BytesLaws.{skip}
+use Rattle.protocol.proofs.SignedBytes.{flagged-length}
 use Rattle.demands.specs.Lines.{None, no-line}
 use Rattle.demands.specs.Verifying.{SignChecks, Verifies}
 use Rattle.demands.specs.Signing.{Signing}
@@ -147,13 +148,6 @@ module _ (m : Bytes) (long : 64 ≤ length m) where
 
   flags-length : length flags ≡ 4
   flags-length = length-toLittleEndian 4 (bitOr (numberAt 16 4 m) 8)
-
-  flagged-length : length (withSignedFlag m) ≡ length m
-  unfolding withSignedFlag
-  flagged-length =
-      let a = length-append (take 16 m) (flags ++ drop 20 m) in
-      let b = length-append flags (drop 20 m) in
-      omega (arith, l16, flags-length, length-drop 20 m)
 
   flagged-front : take 4 (withSignedFlag m) ≡ take 4 m
   unfolding withSignedFlag

@@ -3,8 +3,8 @@
 use mathlib.Core.Path.{_≡_}
 use mathlib.Core.Bool.{true, false, not}
 use mathlib.Core.List.{[]}
-use Prim.Native.Nat.{ℕ, _+_, _≤_}
-use lib.Dec.{eqb, ltb}
+use Prim.Native.Nat.{_≤_}
+use lib.Dec.{eqb}
 use lib.ListN.{length, take, replicate}
 use Rattle.cmac.specs.Running as code
 use Rattle.protocol.specs.Bytes.{Bytes}

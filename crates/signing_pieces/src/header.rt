@@ -25,9 +25,10 @@ pub fn covered(header: [u8; 64]) -> [u8; 64]
     ensures { λ r. ⌜ r ≡ spec.covered header ⌝ }
 {
     let flags = u32_bytes(u32_at(&header, 16) | 8);
-    let mut r = [0u8; 64];
-    copy(&mut r, 0, &header[..48]);
+    let none = [0u8; 16];
+    let mut r = header;
     copy(&mut r, 16, &flags);
+    copy(&mut r, 48, &none);
     r
 }
 

@@ -9,16 +9,14 @@ use header::filled;
 use header::is_signed;
 use runs::copy;
 ghost use mathlib.Core.Path.{_≡_};
-ghost use mathlib.Core.Bool.{true, not};
-ghost use mathlib.Core.List.{[], _∷_};
+ghost use mathlib.Core.Bool.{true};
 ghost use Prim.Native.Nat.{_+_, _≤_, _<_};
-ghost use lib.Dec.{eqb, ltb};
+ghost use lib.Dec.{ltb};
 ghost use lib.ListN.{length};
-ghost use Rattle.protocol.specs.Answer.{refuse_when_, firstOf};
+ghost use Rattle.protocol.specs.Answer.{answerNumber, firstOf};
 ghost use Rattle.protocol.specs.Connection.{longestMessage};
-ghost use Rattle.protocol.specs.InnerHeader.{isInnerHeader};
 ghost use Rattle.protocol.specs.SigningPieces.{SigningState, notBegun, withPiece, joinedTests, signatureOf};
-ghost use Rattle.protocol.specs.Calls.{signBeginning, signPiece, signFinishing, verifyFinishing, onlySigning, onlySignature, left};
+ghost use Rattle.protocol.specs.Calls.{signBeginning, signPiece, signFinishing, verifyFinishing, onlySigning, onlySignature, answer, left};
 ghost use Rattle.protocol.specs.Contract.{Returns};
 ghost use Rattle.protocol.specs.Suite as suite;
 ghost use Rattle.signing_pieces.specs.Running.{Holds};
@@ -47,7 +45,7 @@ fn too_long(length: u64, more: usize) -> bool
 
 // 40.
 pub fn begin_number(key: &[u8]) -> u32
-    ensures { λ r. ⌜ Returns (signBeginning (now (key .entry))) (onlySigning notBegun) r (left suite.suite (signBeginning (now (key .entry))) (onlySigning notBegun)) ⌝ }
+    ensures { λ r. ⌜ r ≡ answerNumber (answer suite.suite (signBeginning (now (key .entry))) (onlySigning notBegun)) ⌝ }
 {
     refusals::key_number(key, 0)
 }
@@ -80,7 +78,7 @@ impl Signing {
 
     // 3.
     pub fn piece_number(self, piece: &[u8]) -> u32
-        ensures { λ r. ⌜ r ≡ firstOf ((refuse 3 when (ltb longestMessage (self .length + length (now (piece .entry))))) ∷ []) ⌝ }
+        ensures { λ r. ⌜ ((u : SigningState) → Holds self u → r ≡ answerNumber (answer suite.suite (signPiece (now (piece .entry))) (onlySigning u))) ⌝ }
     {
         refuse(3, too_long(self.length, piece.len()), 0)
     }
