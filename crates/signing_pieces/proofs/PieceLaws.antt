@@ -11,14 +11,18 @@ use lib.Seq.{paste, take-length, take-all, take-at, take-append-le, take-paste, 
 use Rattle.aes.specs.KeyExpansion.{keyExpansion}
 use Rattle.aes.specs.BlockCipher.{blockCipher}
 use Rattle.cmac.specs.declared.Mac.{Mac}
+use Rattle.cmac.specs.Cmac as rfc4493
 use Rattle.cmac.specs.Running as code
 use Rattle.protocol.specs.Bytes.{Bytes}
 use Rattle.protocol.specs.Ciphers.{aes128}
-use Rattle.protocol.specs.Signing.{withSignedFlag, withSignature}
-use Rattle.protocol.specs.SigningPieces.{SigningState, withPiece}
+use Rattle.protocol.specs.Signing.{withSignedFlag, withSignature, signatureUnder}
+use Rattle.protocol.specs.SigningPieces.{SigningState, withPiece, signatureOf}
+use Rattle.protocol.specs.Suite.{cmac}
+use Rattle.protocol.proofs.SuiteLaws.{cmac-is}
 use Rattle.protocol.proofs.SignedBytes.{flagged-length, flagged-append, stored-append}
 use Rattle.signing_pieces.specs.declared.Signing.{Signing}
 use Rattle.signing_pieces.specs.Running.{covered, UnderWay, Holds}
+use Rattle.signing_pieces.proofs.StateLaws.{long-begun}
 
 -- what stands behind the header is signed as it is
 pub covered-append : (a b : Bytes) → 64 ≤ length a → covered (a ++ b) ≡ covered a ++ b
@@ -142,3 +146,15 @@ module _ (u : SigningState) (b : u .begun ≡ true) (p : Bytes) where
               ∙ sym (take-at (u .joined ++ a) rest 64 l)
               ∙ ap (take 64) (sym all-is))
               (λ k. rw signed at held)
+
+-- the end
+pub finished : (u : SigningState) (s : Signing) (h : Holds s u) → 64 ≤ length (u .joined) → (r : Bytes) (keys : List (List ℕ))
+    → keys ≡ keyExpansion 4 10 (s .key)
+    → ((m : Bytes) → code.Holds (s .code) (blockCipher keys) m → r ≡ rfc4493.cmac (blockCipher keys) m)
+    → r ≡ signatureOf cmac u
+unfolding signatureOf signatureUnder covered
+finished u s h l r keys ek f =
+    let way = h .under-way (long-begun s u h l) in
+    let same : keys ≡ keyExpansion 4 10 (u .key) = ek ∙ ap (keyExpansion 4 10) (way .its-key) in
+    let f′ : ((m : Bytes) → code.Holds (s .code) (aes128 (u .key)) m → r ≡ rfc4493.cmac (aes128 (u .key)) m) = rw same at f in
+    f′ (covered (u .joined)) (way .chained l) ∙ sym (cmac-is (u .key) (covered (u .joined)))

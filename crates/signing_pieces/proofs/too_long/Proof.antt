@@ -1,21 +1,27 @@
+-- Right because the limit less the length is what may still come.
+-- Assumes nothing.
+use mathlib.Core.Path.{sym}
+use Prim.Native.Nat.{_+_}
+use native.Mathlib.Omega.{arith}
+use borrow.Author.Tests.{lt-ltb}
+use Rattle.protocol.specs.Connection.{longestMessage}
+use Rattle.signing_pieces.proofs.Limit.{within}
 use borrow.Author.Needs.{needs}
 use Rattle.signing_pieces.proofs.too_long.Statement.{statement}
 use Rattle.signing_pieces.proofs.too_long.Tie as tie
-use Rattle.signing_pieces.proofs.too_long.Reads as reads
-use Rattle.signing_pieces.proofs.too_long.Lts as lts
-use Rattle.connection.proofs.longest_message.Reads as longest-message-reads
 
--- src/lib.rt:41:17
-longest-message-requires : tie.Need-longest-message-requires
-longest-message-requires c κs = search needs
-
--- src/lib.rt:43:9
 returns : tie.Need-returns
-returns c = ?
+returns c =
+    let a = c .before .before .args in
+    sym (lt-ltb longestMessage (a .length + a .more) (omega (arith, c .if1 .taken, c .before .longest-message .ensures)))
 
--- src/lib.rt:38:1
 returns-2 : tie.Need-returns-2
-returns-2 c = ?
+returns-2 c = within _ _ _ (c .before .longest-message .ensures) (omega (arith, c .if1 .left))
 
 pub too-long-spec : {M : Type 1} → statement M
-too-long-spec = tie.close (tie.spec longest-message-requires returns returns-2)
+too-long-spec =
+    tie.close
+    (tie.spec
+    (λ c κs. search needs)
+    returns
+    returns-2)

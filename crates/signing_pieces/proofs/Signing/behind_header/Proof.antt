@@ -1,32 +1,29 @@
+-- Right because the header is whole, and what stands behind it is signed as it is.
+-- Assumes nothing.
+use mathlib.Core.Path.{_≡_, sym, _∙_}
+use denote.Ref.{now}
+use lib.ListN.{length, length-map}
+use Rattle.signing_pieces.proofs.PieceLaws.{after-header}
 use borrow.Author.Needs.{needs}
 use Rattle.signing_pieces.proofs.Signing.behind_header.Statement.{statement}
 use Rattle.signing_pieces.proofs.Signing.behind_header.Tie as tie
-use Rattle.signing_pieces.proofs.Signing.behind_header.Reads as reads
-use Rattle.signing_pieces.proofs.Signing.behind_header.Lts as lts
-use Rattle.aes.proofs.expand_key.Reads as expand-key-reads
-use Rattle.aes.proofs.table.Reads as table-reads
-use Rattle.cmac.proofs.Mac.update.Reads as update-reads
 
--- src/lib.rt:93:17
-table-requires : tie.Need-table-requires
-table-requires c κs = search needs
+room : (c : tie.Start) → length (c .args .self .header) ≡ 64
+room c = sym (length-map (c .args .self .header) _) ∙ c .good .0 .1 .1 .1 .0 .1 .0 .1
 
--- src/lib.rt:97:13
-expand-key-requires : tie.Need-expand-key-requires
-expand-key-requires c κs = search needs
-
--- src/lib.rt:101:19
-update-requires : tie.Need-update-requires
-update-requires c κs = search needs
-
--- src/lib.rt:102:21
-add-t13 : tie.Need-add-t13
-add-t13 c = search needs
-
--- src/lib.rt:89:5
 returns : tie.Need-returns
-returns c = ?
+returns c =
+    let st = c .before .before .before .before .before .before .before .before .before in
+    let a = st .args in
+    λ u h b.
+    after-header u b (now (a .piece)) (a .self) h (room st) (st .pre .0) _ _ (c .before .before .before .expand-key .ensures) (c .before .update .ensures)
 
 pub behind-header-spec : {M : Type 1} → statement M
 behind-header-spec =
-    tie.close (tie.spec table-requires expand-key-requires update-requires add-t13 returns)
+    tie.close
+    (tie.spec
+    (λ c κs. search needs)
+    (λ c κs. search needs)
+    (λ c κs. search needs)
+    (λ c. search needs)
+    returns)

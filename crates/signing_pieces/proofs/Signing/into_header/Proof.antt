@@ -1,106 +1,78 @@
+-- Right because the first bytes go where the header ends, and once it is whole the code takes it in with the rest behind.
+-- Assumes nothing.
+use mathlib.Core.Path.{_≡_, sym, ap, _∙_}
+use mathlib.Core.List.{[], _++_}
+use Prim.Native.Nat.{_-_}
+use native.Mathlib.Omega.{arith}
+use denote.Ref.{now}
+use lib.ListN.{length, take, length-map, take-append-drop}
+use lib.Seq.{length-take-le}
+use Rattle.octets.proofs.Paste.{part-all}
+use Rattle.aes.specs.BlockCipher.{blockCipher}
+use Rattle.signing_pieces.proofs.PieceLaws.{still-short, now-whole}
 use borrow.Author.Needs.{needs}
 use Rattle.signing_pieces.proofs.Signing.into_header.Statement.{statement}
 use Rattle.signing_pieces.proofs.Signing.into_header.Tie as tie
-use Rattle.signing_pieces.proofs.Signing.into_header.Reads as reads
-use Rattle.signing_pieces.proofs.Signing.into_header.Lts as lts
-use Rattle.aes.proofs.expand_key.Reads as expand-key-reads
-use Rattle.aes.proofs.table.Reads as table-reads
-use Rattle.cmac.proofs.Mac.new.Reads as new-reads
-use Rattle.cmac.proofs.Mac.update.Reads as update-reads
-use Rattle.signing_pieces.proofs.header.covered.Reads as covered-reads
-use Rattle.signing_pieces.proofs.header.filled.Reads as filled-reads
 
--- src/lib.rt:113:20
-sub-room : tie.Need-sub-room
-sub-room c = search needs
+room : (c : tie.Start) → length (c .args .self .header) ≡ 64
+room c = sym (length-map (c .args .self .header) _) ∙ c .good .0 .1 .1 .1 .0 .1 .0 .1
 
--- src/lib.rt:120:25
-filled-requires : tie.Need-filled-requires
-filled-requires c κs = search needs
-
--- src/lib.rt:122:25
-add-t18 : tie.Need-add-t18
-add-t18 c = search needs
-
--- src/lib.rt:118:13
 returns : tie.Need-returns
-returns c = ?
+returns c =
+    let st = c .before .before .before .before .before .before .before in
+    let a = st .args in
+    λ u h b.
+    still-short u b (now (a .piece)) (a .self) h (room st) (st .pre .0) (omega (arith, c .before .before .before .if1 .taken, st .pre .0)) _ (c .before .filled .ensures)
 
--- src/lib.rt:126:17
-table-requires : tie.Need-table-requires
-table-requires c κs = search needs
-
--- src/lib.rt:127:13
-expand-key-requires : tie.Need-expand-key-requires
-expand-key-requires c κs = search needs
-
--- src/lib.rt:128:40
 slice-aggregate-filled : tie.Need-slice-aggregate-filled
-slice-aggregate-filled c = ?
+slice-aggregate-filled c =
+    let st = c .before .before .before .before .before .before .before in
+    sym (length-take-le _ (now (st .args .piece)) (omega (arith, c .before .before .before .if1 .left)))
 
--- src/lib.rt:128:13
 filled-requires-2 : tie.Need-filled-requires-2
-filled-requires-2 c κs = ?
+filled-requires-2 c κs =
+    let st = c .before .before .before .before .before .before .before in
+    let l = length-take-le (64 - st .args .self .length) (now (st .args .piece)) (omega (arith, c .before .before .before .if1 .left)) in
+    omega (arith, st .pre .0)
 
--- src/lib.rt:129:22
-covered-requires : tie.Need-covered-requires
-covered-requires c κs = search needs
-
--- src/lib.rt:130:20
-new-requires : tie.Need-new-requires
-new-requires c κs = search needs
-
--- src/lib.rt:130:48
-slice-aggregate-update : tie.Need-slice-aggregate-update
-slice-aggregate-update c = search needs
-
--- src/lib.rt:130:13
-update-requires : tie.Need-update-requires
-update-requires c κs = search needs
-
--- src/lib.rt:134:41
-sub-update : tie.Need-sub-update
-sub-update c = search needs
-
--- src/lib.rt:134:41
-part-update-start : tie.Need-part-update-start
-part-update-start c = search needs
-
--- src/lib.rt:134:41
-part-update-end : tie.Need-part-update-end
-part-update-end c = search needs
-
--- src/lib.rt:134:19
-update-requires-2 : tie.Need-update-requires-2
-update-requires-2 c κs = search needs
-
--- src/lib.rt:135:21
 add-t33 : tie.Need-add-t33
-add-t33 c = ?
+add-t33 c = let st = c .before .before .before .before .before .before .before .before .before .before .before .before .before .before .before .before .before in omega (arith, st .pre .1)
 
--- src/lib.rt:108:5
 returns-2 : tie.Need-returns-2
-returns-2 c = ?
+returns-2 c =
+    let st = c .before .before .before .before .before .before .before .before .before .before .before .before .before .before .before .before .before in
+    let a = st .args in
+    let piece = now (a .piece) in
+    let cut = 64 - a .self .length in
+    let fits = c .before .before .before .before .before .before .before .before .before .before .before .before .before .if1 .left in
+    let keys = c .before .before .before .before .before .before .before .before .before .before .before .expand-key in
+    let E = blockCipher (keys .result) in
+    let l = length-take-le cut piece (omega (arith, fits)) in
+    let taken = c .before .update2 .ensures _ (c .before .before .before .before .update .ensures [] (c .before .before .before .before .before .before .before .new .ensures E)) in
+    λ u h b.
+    now-whole u b piece (a .self) h (room st) (st .pre .0) (take cut piece) _ _ (omega (arith, l, st .pre .0))
+    (ap (λ x. take cut piece ++ x) (part-all piece cut) ∙ take-append-drop cut piece)
+    (c .before .before .before .before .before .before .before .before .before .filled2 .ensures) _ _ (keys .ensures) (rw (c .before .before .before .before .before .before .before .before .covered .ensures) at taken)
 
 pub into-header-spec : {M : Type 1} → statement M
 into-header-spec =
     tie.close
     (tie.spec
-    sub-room
-    filled-requires
-    add-t18
+    (λ c. search needs)
+    (λ c κs. search needs)
+    (λ c. search needs)
     returns
-    table-requires
-    expand-key-requires
+    (λ c κs. search needs)
+    (λ c κs. search needs)
     slice-aggregate-filled
     filled-requires-2
-    covered-requires
-    new-requires
-    slice-aggregate-update
-    update-requires
-    sub-update
-    part-update-start
-    part-update-end
-    update-requires-2
+    (λ c κs. search needs)
+    (λ c κs. search needs)
+    (λ c. search needs)
+    (λ c κs. search needs)
+    (λ c. search needs)
+    (λ c. search needs)
+    (λ c. search needs)
+    (λ c κs. search needs)
     add-t33
     returns-2)

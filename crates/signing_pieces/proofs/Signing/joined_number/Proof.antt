@@ -1,32 +1,27 @@
+-- Right because the kept bytes are the first of the message, once there are 64.
+-- Assumes nothing.
+use mathlib.Core.Path.{_≡_, sym, _∙_}
+use lib.ListN.{length, length-map}
+use Rattle.signing_pieces.proofs.StateLaws.{joined-number}
 use borrow.Author.Needs.{needs}
 use Rattle.signing_pieces.proofs.Signing.joined_number.Statement.{statement}
 use Rattle.signing_pieces.proofs.Signing.joined_number.Tie as tie
-use Rattle.signing_pieces.proofs.Signing.joined_number.Reads as reads
-use Rattle.signing_pieces.proofs.Signing.joined_number.Lts as lts
-use Rattle.answer.proofs.refuse.Reads as refuse-reads
-use Rattle.protocol_id.proofs.begins.Reads as begins-reads
 
--- src/lib.rt:161:54
-slice-aggregate-begins : tie.Need-slice-aggregate-begins
-slice-aggregate-begins c = search needs
+room : (c : tie.Start) → length (c .args .self .header) ≡ 64
+room c = sym (length-map (c .args .self .header) _) ∙ c .good .0 .1 .1 .1 .0 .1 .0 .1
 
--- src/lib.rt:161:34
-begins-requires : tie.Need-begins-requires
-begins-requires c κs = search needs
-
--- src/lib.rt:161:13
-refuse-requires : tie.Need-refuse-requires
-refuse-requires c κs = search needs
-
--- src/lib.rt:162:9
-refuse-requires-2 : tie.Need-refuse-requires-2
-refuse-requires-2 c κs = search needs
-
--- src/lib.rt:157:5
 returns : tie.Need-returns
-returns c = ?
+returns c =
+    let st = c .before .before .before .before .before .before in
+    λ u h.
+    joined-number (st .args .self) u h _ _ _ (room st) (c .before .before .before .begins .ensures) (c .before .before .refuse .ensures) (c .refuse2 .ensures)
 
 pub joined-number-spec : {M : Type 1} → statement M
 joined-number-spec =
     tie.close
-    (tie.spec slice-aggregate-begins begins-requires refuse-requires refuse-requires-2 returns)
+    (tie.spec
+    (λ c. search needs)
+    (λ c κs. search needs)
+    (λ c κs. search needs)
+    (λ c κs. search needs)
+    returns)

@@ -1,45 +1,53 @@
+-- Right because each way takes the piece in where it belongs, or leaves the state as it is.
+-- Assumes nothing.
+use mathlib.Core.Path.{_≡_, sym, _∙_}
+use native.Mathlib.Omega.{arith}
+use borrow.Author.Tests.{ltb-false}
+use denote.Ref.{now}
+use Rattle.signing_pieces.proofs.StateLaws.{piece-refused, piece-taken, no-message-stays, is-begun}
 use borrow.Author.Needs.{needs}
 use Rattle.signing_pieces.proofs.Signing.piece.Statement.{statement}
 use Rattle.signing_pieces.proofs.Signing.piece.Tie as tie
-use Rattle.signing_pieces.proofs.Signing.piece.Reads as reads
-use Rattle.signing_pieces.proofs.Signing.piece.Lts as lts
-use Rattle.signing_pieces.proofs.Signing.behind_header.Reads as behind-header-reads
-use Rattle.signing_pieces.proofs.Signing.into_header.Reads as into-header-reads
-use Rattle.signing_pieces.proofs.too_long.Reads as too-long-reads
 
--- src/lib.rt:144:12
-too-long-requires : tie.Need-too-long-requires
-too-long-requires c κs = search needs
-
--- src/lib.rt:145:13
 returns : tie.Need-returns
-returns c = ?
+returns c =
+    let a = c .before .before .before .args in
+    λ u h. piece-refused (a .self) u h (now (a .piece)) (sym (c .if1 .taken) ∙ c .before .too-long .ensures)
 
--- src/lib.rt:148:13
 returns-2 : tie.Need-returns-2
-returns-2 c = ?
+returns-2 c =
+    let a = c .before .before .before .before .before .args in
+    λ u h.
+    piece-taken (a .self) u h (now (a .piece)) _ (sym (c .before .before .if1 .left) ∙ c .before .before .before .too-long .ensures)
+    (no-message-stays (a .self) u h (now (a .piece)) (c .if2 .taken))
 
--- src/lib.rt:151:13
 into-header-requires : tie.Need-into-header-requires
-into-header-requires c κs = ?
+into-header-requires c κs =
+    (c .if3 .taken, ltb-false _ _ (sym (c .before .before .before .before .before .too-long .ensures) ∙ c .before .before .before .before .if1 .left))
 
--- src/lib.rt:151:13
 returns-3 : tie.Need-returns-3
-returns-3 c = ?
+returns-3 c =
+    let a = c .before .before .before .before .before .before .before .before .args in
+    λ u h.
+    piece-taken (a .self) u h (now (a .piece)) _ (sym (c .before .before .before .before .before .if1 .left) ∙ c .before .before .before .before .before .before .too-long .ensures)
+    (c .into-header .ensures u h (is-begun (a .self) u h (c .before .before .before .if2 .left)))
 
--- src/lib.rt:153:9
 behind-header-requires : tie.Need-behind-header-requires
-behind-header-requires c κs = ?
+behind-header-requires c κs =
+    (omega (arith, c .if3 .left), ltb-false _ _ (sym (c .before .before .before .before .before .too-long .ensures) ∙ c .before .before .before .before .if1 .left))
 
--- src/lib.rt:141:5
 returns-4 : tie.Need-returns-4
-returns-4 c = ?
+returns-4 c =
+    let a = c .before .before .before .before .before .before .before .before .args in
+    λ u h.
+    piece-taken (a .self) u h (now (a .piece)) _ (sym (c .before .before .before .before .before .if1 .left) ∙ c .before .before .before .before .before .before .too-long .ensures)
+    (c .behind-header .ensures u h (is-begun (a .self) u h (c .before .before .before .if2 .left)))
 
 pub piece-spec : {M : Type 1} → statement M
 piece-spec =
     tie.close
     (tie.spec
-    too-long-requires
+    (λ c κs. search needs)
     returns
     returns-2
     into-header-requires

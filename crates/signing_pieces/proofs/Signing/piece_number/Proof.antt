@@ -1,22 +1,20 @@
+-- Right because the length that the state has is that of the joined bytes.
+-- Assumes nothing.
+use denote.Ref.{now}
+use Rattle.signing_pieces.proofs.StateLaws.{piece-number}
 use borrow.Author.Needs.{needs}
 use Rattle.signing_pieces.proofs.Signing.piece_number.Statement.{statement}
 use Rattle.signing_pieces.proofs.Signing.piece_number.Tie as tie
-use Rattle.signing_pieces.proofs.Signing.piece_number.Reads as reads
-use Rattle.signing_pieces.proofs.Signing.piece_number.Lts as lts
-use Rattle.answer.proofs.refuse.Reads as refuse-reads
-use Rattle.signing_pieces.proofs.too_long.Reads as too-long-reads
 
--- src/lib.rt:85:19
-too-long-requires : tie.Need-too-long-requires
-too-long-requires c κs = search needs
-
--- src/lib.rt:85:9
-refuse-requires : tie.Need-refuse-requires
-refuse-requires c κs = search needs
-
--- src/lib.rt:82:5
 returns : tie.Need-returns
-returns c = ?
+returns c =
+    let a = c .before .before .before .args in
+    λ u h. piece-number (a .self) u h (now (a .piece)) _ _ (c .before .too-long .ensures) (c .refuse .ensures)
 
 pub piece-number-spec : {M : Type 1} → statement M
-piece-number-spec = tie.close (tie.spec too-long-requires refuse-requires returns)
+piece-number-spec =
+    tie.close
+    (tie.spec
+    (λ c κs. search needs)
+    (λ c κs. search needs)
+    returns)

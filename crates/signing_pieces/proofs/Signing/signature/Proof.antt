@@ -1,27 +1,22 @@
+-- Right because the code has taken in the whole message as it is signed.
+-- Assumes nothing.
+use mathlib.Core.Path.{_≡_, sym, ap, _∙_}
+use mathlib.Core.List.{List}
+use Prim.Native.Nat.{ℕ}
+use Rattle.signing_pieces.proofs.PieceLaws.{finished}
 use borrow.Author.Needs.{needs}
 use Rattle.signing_pieces.proofs.Signing.signature.Statement.{statement}
 use Rattle.signing_pieces.proofs.Signing.signature.Tie as tie
-use Rattle.signing_pieces.proofs.Signing.signature.Reads as reads
-use Rattle.signing_pieces.proofs.Signing.signature.Lts as lts
-use Rattle.aes.proofs.expand_key.Reads as expand-key-reads
-use Rattle.aes.proofs.table.Reads as table-reads
-use Rattle.cmac.proofs.Mac.finish.Reads as finish-reads
 
--- src/lib.rt:169:17
-table-requires : tie.Need-table-requires
-table-requires c κs = search needs
-
--- src/lib.rt:172:13
-expand-key-requires : tie.Need-expand-key-requires
-expand-key-requires c κs = search needs
-
--- src/lib.rt:173:9
-finish-requires : tie.Need-finish-requires
-finish-requires c κs = search needs
-
--- src/lib.rt:166:5
 returns : tie.Need-returns
-returns c = ?
+returns c =
+    λ u h l. finished u (c .before .before .before .before .before .before .args .self) h l _ _ (c .before .before .expand-key .ensures) (c .finish .ensures)
 
 pub signature-spec : {M : Type 1} → statement M
-signature-spec = tie.close (tie.spec table-requires expand-key-requires finish-requires returns)
+signature-spec =
+    tie.close
+    (tie.spec
+    (λ c κs. search needs)
+    (λ c κs. search needs)
+    (λ c κs. search needs)
+    returns)

@@ -1,66 +1,52 @@
+-- Right because each line is tested in its order on the kept bytes, and a message with the flag is signed as it came.
+-- Assumes nothing.
+use mathlib.Core.Path.{_≡_, sym, _∙_}
+use borrow.Author.Tests.{not-true, not-false}
+use native.Mathlib.Omega.{arith}
+use lib.ListN.{length, length-map}
+use Rattle.signing_pieces.proofs.StateLaws.{long-enough, verify-refused, not-signed, compared}
 use borrow.Author.Needs.{needs}
 use Rattle.signing_pieces.proofs.Signing.verify.Statement.{statement}
 use Rattle.signing_pieces.proofs.Signing.verify.Tie as tie
-use Rattle.signing_pieces.proofs.Signing.verify.Reads as reads
-use Rattle.signing_pieces.proofs.Signing.verify.Lts as lts
-use Rattle.answer.proofs.refuse.Reads as refuse-reads
-use Rattle.arrays.proofs.bytes_16.Reads as bytes-16-reads
-use Rattle.compare.proofs.same_16.Reads as same-16-reads
-use Rattle.signing_pieces.proofs.Signing.joined_number.Reads as joined-number-reads
-use Rattle.signing_pieces.proofs.Signing.signature.Reads as signature-reads
-use Rattle.signing_pieces.proofs.header.is_signed.Reads as is-signed-reads
 
--- src/lib.rt:193:13
-joined-number-requires : tie.Need-joined-number-requires
-joined-number-requires c κs = search needs
+room : (c : tie.Start) → length (c .args .self .header) ≡ 64
+room c = sym (length-map (c .args .self .header) _) ∙ c .good .0 .1 .1 .1 .0 .1 .0 .1
 
--- src/lib.rt:195:13
 returns : tie.Need-returns
-returns c = ?
+returns c = λ u h. verify-refused (c .before .before .args .self) u h _ (c .before .joined-number .ensures u h) (c .if1 .taken)
 
--- src/lib.rt:198:13
-is-signed-requires : tie.Need-is-signed-requires
-is-signed-requires c κs = search needs
-
--- src/lib.rt:199:13
 returns-2 : tie.Need-returns-2
-returns-2 c = ?
+returns-2 c =
+    let st = c .before .before .before .before .before in
+    λ u h.
+    not-signed (st .args .self) u h _ (c .before .before .before .before .joined-number .ensures u h) (c .before .before .before .if1 .left) (room st)
+    (sym (c .before .is-signed .ensures .0) ∙ not-true _ (c .if2 .taken))
 
--- src/lib.rt:201:47
-slice-aggregate-bytes-16 : tie.Need-slice-aggregate-bytes-16
-slice-aggregate-bytes-16 c = search needs
-
--- src/lib.rt:201:38
 bytes-16-requires : tie.Need-bytes-16-requires
-bytes-16-requires c κs = ?
+bytes-16-requires c κs = let l = room (c .before .before .before .before .before .before) in omega arith
 
--- src/lib.rt:201:61
-signature-requires : tie.Need-signature-requires
-signature-requires c κs = search needs
-
--- src/lib.rt:201:13
-same-16-requires : tie.Need-same-16-requires
-same-16-requires c κs = search needs
-
--- src/lib.rt:202:9
-refuse-requires : tie.Need-refuse-requires
-refuse-requires c κs = search needs
-
--- src/lib.rt:190:5
 returns-3 : tie.Need-returns-3
-returns-3 c = ?
+returns-3 c =
+    let st = c .before .before .before .before .before .before .before .before .before .before in
+    let flag = c .before .before .before .before .before .before .is-signed .ensures in
+    let set = not-false _ (c .before .before .before .before .before .if2 .left) in
+    let z = c .before .before .before .before .before .before .before .before .if1 .left in
+    λ u h.
+    let says = c .before .before .before .before .before .before .before .before .before .joined-number .ensures u h in
+    compared (st .args .self) u h _ says z (room st) _ _ _ _ (sym (flag .0) ∙ set) (flag .1 set) (c .before .before .before .bytes-16 .ensures)
+    (c .before .before .signature .ensures u h (long-enough (st .args .self) u h _ says z)) (c .before .same-16 .ensures) (c .refuse .ensures)
 
 pub verify-spec : {M : Type 1} → statement M
 verify-spec =
     tie.close
     (tie.spec
-    joined-number-requires
+    (λ c κs. search needs)
     returns
-    is-signed-requires
+    (λ c κs. search needs)
     returns-2
-    slice-aggregate-bytes-16
+    (λ c. search needs)
     bytes-16-requires
-    signature-requires
-    same-16-requires
-    refuse-requires
+    (λ c κs. search needs)
+    (λ c κs. search needs)
+    (λ c κs. search needs)
     returns-3)
