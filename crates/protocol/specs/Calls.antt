@@ -20,8 +20,8 @@ use Rattle.protocol.specs.SessionTable.{Session, sealingKey, openingKey,
 use Rattle.protocol.specs.SessionTable.{countUp, counterStep}
 use Rattle.protocol.specs.Refusals.{notEncrypting, tooShort, tooLong, notTransform, badFlags, dirtyNonce, otherSession, constrained, guest, badTag, badSize}
 use Rattle.protocol.specs.Refusals.{counterUsedUp, unknownDialect, noKeyMaterial, idZero, idTaken, tableFull, foldLength, badLength}
-use Rattle.protocol.specs.Refusals.{innerTooShort, notHeader, notSigned, badSignature}
-use Rattle.protocol.specs.SigningPieces.{SigningState, begunUnder, notBegun, withPiece, pieceTests, signFinishTests, verifyFinishTests, signatureOf}
+use Rattle.protocol.specs.Refusals.{pieceTooLong, innerTooShort, notHeader, notSigned, badSignature}
+use Rattle.protocol.specs.SigningPieces.{SigningState, signingUnderKey, noSigning, signingWith, signatureOf}
 use Rattle.protocol.specs.Transform.{Primitives, sealedUnder, plaintextUnder, openedTo}
 
 -- ---- the calls, each with all that it only reads
@@ -62,22 +62,22 @@ pub record Lent : Type 0 where
 
 -- what a call is lent that is lent nothing but this
 abbrev pub onlyMessage : Bytes → Lent
-onlyMessage m = record { message = m; table = []; chain = []; keys = []; counter = 0; signing = notBegun; signature = [] }
+onlyMessage m = record { message = m; table = []; chain = []; keys = []; counter = 0; signing = noSigning; signature = [] }
 
 abbrev pub messageAndCounter : Bytes → ℕ → Lent
-messageAndCounter m k = record { message = m; table = []; chain = []; keys = []; counter = k; signing = notBegun; signature = [] }
+messageAndCounter m k = record { message = m; table = []; chain = []; keys = []; counter = k; signing = noSigning; signature = [] }
 
 abbrev pub messageAndTable : Bytes → List Session → Lent
-messageAndTable m t = record { message = m; table = t; chain = []; keys = []; counter = 0; signing = notBegun; signature = [] }
+messageAndTable m t = record { message = m; table = t; chain = []; keys = []; counter = 0; signing = noSigning; signature = [] }
 
 abbrev pub onlyTable : List Session → Lent
-onlyTable t = record { message = []; table = t; chain = []; keys = []; counter = 0; signing = notBegun; signature = [] }
+onlyTable t = record { message = []; table = t; chain = []; keys = []; counter = 0; signing = noSigning; signature = [] }
 
 abbrev pub onlyChain : Bytes → Lent
-onlyChain v = record { message = []; table = []; chain = v; keys = []; counter = 0; signing = notBegun; signature = [] }
+onlyChain v = record { message = []; table = []; chain = v; keys = []; counter = 0; signing = noSigning; signature = [] }
 
 abbrev pub onlyKeys : Bytes → Lent
-onlyKeys k = record { message = []; table = []; chain = []; keys = k; counter = 0; signing = notBegun; signature = [] }
+onlyKeys k = record { message = []; table = []; chain = []; keys = k; counter = 0; signing = noSigning; signature = [] }
 
 abbrev pub withMessage : Bytes → Lent → Lent
 withMessage m w = record { message = m; table = w .table; chain = w .chain; keys = w .keys; counter = w .counter; signing = w .signing; signature = w .signature }
@@ -98,18 +98,30 @@ abbrev pub onlySigning : SigningState → Lent
 onlySigning u = record { message = []; table = []; chain = []; keys = []; counter = 0; signing = u; signature = [] }
 
 abbrev pub onlySignature : Bytes → Lent
-onlySignature place = record { message = []; table = []; chain = []; keys = []; counter = 0; signing = notBegun; signature = place }
+onlySignature place = record { message = []; table = []; chain = []; keys = []; counter = 0; signing = noSigning; signature = place }
 
 abbrev pub withSigning : SigningState → Lent → Lent
 withSigning u w =
     record {
-      message = w .message; table = w .table; chain = w .chain; keys = w .keys; counter = w .counter; signing = u; signature = w .signature;
+      message = w .message;
+      table = w .table;
+      chain = w .chain;
+      keys = w .keys;
+      counter = w .counter;
+      signing = u;
+      signature = w .signature;
     }
 
 abbrev pub withSignaturePlace : Bytes → Lent → Lent
 withSignaturePlace s w =
     record {
-      message = w .message; table = w .table; chain = w .chain; keys = w .keys; counter = w .counter; signing = w .signing; signature = s;
+      message = w .message;
+      table = w .table;
+      chain = w .chain;
+      keys = w .keys;
+      counter = w .counter;
+      signing = w .signing;
+      signature = s;
     }
 
 -- ---- what a call tests: lines of the table of numbers, the walk if there is one, lines after it
@@ -164,6 +176,17 @@ signTests key m = keyTests key ++ (tooLong m ∷ innerTooShort m ∷ notHeader m
 -- "Verifying .. then tests in this order: 24 .., 25", where right is the signature that the message should have
 abbrev pub verifyTests : Bytes → Bytes → Bytes → List Test
 verifyTests key m right = signTests key m ++ (notSigned m ∷ badSignature right m ∷ [])
+
+-- "finishing under 64 bytes is" 11 where a message is signed or verified; "12, 24 and 25 are answered at the finish"
+abbrev pub joinedTests : SigningState → List Test
+joinedTests u = innerTooShort (u .joined) ∷ notHeader (u .joined) 0 ∷ []
+
+-- and 40 before them, of the place for the signature
+abbrev pub signFinishTests : SigningState → Bytes → List Test
+signFinishTests u place = badLength (eqb (length place) 16) ∷ joinedTests u
+
+abbrev pub verifyFinishTests : SigningState → Bytes → List Test
+verifyFinishTests u right = joinedTests u ++ (notSigned (u .joined) ∷ badSignature right (u .joined) ∷ [])
 
 -- 6 to 8: every sealing and opening with the table, on the record s that lookup took
 abbrev pub recordTests : Connection → Session → List Test
@@ -234,7 +257,7 @@ module _ (P : Primitives) where
   tests (signingUnder key) w = lines (signTests key (w .message))
   tests (verifyingUnder key) w = lines (verifyTests key (w .message) (signatureUnder (P .cmac) key (w .message)))
   tests (signBeginning key) w = lines (keyTests key)
-  tests (signPiece p) w = lines (pieceTests (w .signing) p)
+  tests (signPiece p) w = lines (pieceTooLong (w .signing) p ∷ [])
   tests (signFinishing u) w = lines (signFinishTests u (w .signature))
   tests (verifyFinishing u) w = lines (verifyFinishTests u (signatureUnder (P .cmac) (u .key) (u .joined)))
   tests (adding a) w = lines (addTests a ((recordOf (a .id) (w .table)) .used) (hasFree (w .table)))
@@ -254,8 +277,8 @@ module _ (P : Primitives) where
   effect (signingUnder key) w = withMessage (signedUnder (P .cmac) key (w .message)) w
   -- it "changes no byte"
   effect (verifyingUnder key) w = w
-  effect (signBeginning key) w = withSigning (begunUnder key) w
-  effect (signPiece p) w = withSigning (withPiece p (w .signing)) w
+  effect (signBeginning key) w = withSigning (signingUnderKey key) w
+  effect (signPiece p) w = withSigning (signingWith p (w .signing)) w
   effect (signFinishing u) w = withSignaturePlace (signatureOf (P .cmac) u) w
   effect (verifyFinishing u) w = w
   effect (adding a) w = withTable (fillFree (newRecord (P .kdf) a) (w .table)) w

@@ -6,9 +6,9 @@ pub mod InnerHeader
 pub mod Keys
 pub mod Preauth
 pub mod Signing
+pub mod SigningPieces
 pub mod SessionTable
 pub mod Refusals
-pub mod SigningPieces
 pub mod Compound
 pub mod Ciphers
 pub mod Transform

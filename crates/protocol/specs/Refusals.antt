@@ -15,6 +15,7 @@ use Rattle.protocol.specs.TransformHeader.{TransformHeader}
 use Rattle.protocol.specs.InnerHeader.{isInnerHeader, isRelated, Envelope, belongs}
 use Rattle.protocol.specs.Preauth.{admitted}
 use Rattle.protocol.specs.Signing.{isSigned, signatureField}
+use Rattle.protocol.specs.SigningPieces.{SigningState, signingFits}
 use Rattle.protocol.specs.SessionTable.{Session}
 
 -- "dialect not one of the three, or encryption off, or cipher 0, or dialect 3.1.1 with a cipher other than 1 or 2"
@@ -28,6 +29,10 @@ tooShort m = refuse 2 when leb (length m) 52
 -- "more than 1,048,576 bytes after the transform header", which are p; signing and verifying: "over the message's length", all of it
 abbrev pub tooLong : Bytes → Test
 tooLong p = refuse 3 when ltb longestMessage (length p)
+
+-- "A piece that would pass the length limit is" 3 where it is signed or verified
+abbrev pub pieceTooLong : SigningState → Bytes → Test
+pieceTooLong u p = refuse 3 when not (signingFits u p)
 
 -- "first four bytes not FD 53 4D 42"
 abbrev pub notTransform : TransformHeader → Test

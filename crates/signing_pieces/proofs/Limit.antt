@@ -4,18 +4,17 @@ use mathlib.Core.Path.{_≡_, refl, sym, ap, _∙_}
 use mathlib.Core.Bool.{Bool, true, false, cond, not}
 use Prim.Native.Nat.{ℕ, _+_, _-_, _≤_}
 use native.Mathlib.Omega.{arith}
-use native.Mathlib.Decide.{ℕ-discrete}
-use borrow.Author.Tests.{ltb-true, ltb-false, lt-ltb, le-ltb, eqb-true}
-use lib.Dec.{eqb, ltb}
+use borrow.Author.Tests.{leb-true, leb-false, le-leb, lt-leb, eqb-true}
+use lib.Dec.{eqb, leb}
 use Rattle.protocol.specs.Connection.{longestMessage}
 
 -- what may still come, where the limit is not passed yet
-pub within : (limit length more : ℕ) → limit ≡ longestMessage → length ≤ limit → ltb (limit - length) more ≡ ltb longestMessage (length + more)
-within limit length more e h = go (ltb (limit - length) more) refl ∙ ap (λ (k : ℕ). ltb k (length + more)) e
+pub within : (limit length more : ℕ) → limit ≡ longestMessage → length ≤ limit → leb more (limit - length) ≡ leb (length + more) longestMessage
+within limit length more e h = go (leb more (limit - length)) refl ∙ ap (leb (length + more)) e
   where
-    go : (b : Bool) → ltb (limit - length) more ≡ b → b ≡ ltb limit (length + more)
-    go true t = let l = ltb-true (limit - length) more t in sym (lt-ltb limit (length + more) (omega arith))
-    go false t = let l = ltb-false (limit - length) more t in sym (le-ltb limit (length + more) (omega arith))
+    go : (b : Bool) → leb more (limit - length) ≡ b → b ≡ leb (length + more) limit
+    go true t = let l = leb-true more (limit - length) t in sym (le-leb (length + more) limit (omega arith))
+    go false t = let l = leb-false more (limit - length) t in sym (lt-leb (length + more) limit (omega arith))
 
 -- 40 was not answered
 pub place-fits : (size n k : ℕ) → k ≡ cond (not (eqb size 16)) 40 n → k ≡ 0 → size ≡ 16

@@ -1,7 +1,7 @@
 -- A piece after a state that stands for the pieces before it: what the new state stands for, wherever the cut falls.
 -- Assumes nothing.
 use mathlib.Core.Path.{_≡_, refl, sym, ap, ap₂, _∙_}
-use mathlib.Core.Bool.{Bool, true, false, cond, not, true≢false}
+use mathlib.Core.Bool.{true, true≢false}
 use mathlib.Core.List.{List, [], _∷_, _++_, append-assoc}
 use Prim.Native.Nat.{ℕ, _+_, _≤_, _<_}
 use native.Mathlib.Omega.{arith}
@@ -16,12 +16,12 @@ use Rattle.cmac.specs.Running as code
 use Rattle.protocol.specs.Bytes.{Bytes}
 use Rattle.protocol.specs.Ciphers.{aes128}
 use Rattle.protocol.specs.Signing.{withSignedFlag, withSignature, signatureUnder}
-use Rattle.protocol.specs.SigningPieces.{SigningState, withPiece, signatureOf}
+use Rattle.protocol.specs.SigningPieces.{SigningState, signingWith, signatureOf}
 use Rattle.protocol.specs.Suite.{cmac}
 use Rattle.protocol.proofs.SuiteLaws.{cmac-is}
 use Rattle.protocol.proofs.SignedBytes.{flagged-length, flagged-append, stored-append}
-use Rattle.signing_pieces.specs.declared.Signing.{Signing}
-use Rattle.signing_pieces.specs.Running.{covered, UnderWay, Holds}
+use Rattle.signing_pieces.specs.declared.SignState.{SignState}
+use Rattle.signing_pieces.specs.Running.{covered, UnderWay, StandsFor}
 use Rattle.signing_pieces.proofs.StateLaws.{long-begun}
 
 -- what stands behind the header is signed as it is
@@ -33,15 +33,8 @@ covered-append a b l =
 
 -- one message goes on
 module _ (u : SigningState) (b : u .begun ≡ true) (p : Bytes) where
-  abbrev next : SigningState
-  next = record { begun = true; key = u .key; joined = u .joined ++ p }
-
-  pub goes-on : withPiece p u ≡ next
-  unfolding withPiece
-  goes-on = ap (λ (x : Bool). cond x next u) b
-
   -- the state after it, by its parts
-  module _ (s : Signing) (h : Holds s u) where
+  module _ (s : SignState) (h : StandsFor s u) where
     abbrev at : ℕ
     at = length (u .joined)
 
@@ -52,26 +45,26 @@ module _ (u : SigningState) (b : u .begun ≡ true) (p : Bytes) where
     total = ap (λ (n : ℕ). n + length p) (h .count) ∙ sym (length-append (u .joined) p)
 
     module _ (header : List ℕ) (mac : Mac) where
-      abbrev made : Signing
+      abbrev made : SignState
       made = record { key = s .key; header = header; code = mac; length = s .length + length p; begun = s .begun }
 
       stands : take (length (u .joined ++ p)) header ≡ take 64 (u .joined ++ p)
           → (64 ≤ length (u .joined ++ p) → code.Holds mac (aes128 (u .key)) (covered (u .joined ++ p)))
-          → Holds made (withPiece p u)
+          → StandsFor made (signingWith p u)
+      unfolding signingWith
       stands f k =
-          rw goes-on
-          (record {
-            flag = h .flag ∙ b;
+          record {
+            flag = h .flag;
             count = total;
-            no-message = λ e. absurd (true≢false e);
+            no-message = λ e. absurd (true≢false (sym b ∙ e));
             under-way = λ e. record { its-key = its .its-key; front = f; chained = k };
-          })
+          }
 
     module _ (size : length (s .header) ≡ 64) where
       -- behind the header
       pub after-header : 64 ≤ s .length → (mac : Mac) (keys : List (List ℕ)) → keys ≡ keyExpansion 4 10 (s .key)
           → ((m : Bytes) → code.Holds (s .code) (blockCipher keys) m → code.Holds mac (blockCipher keys) (m ++ p))
-          → Holds (made (s .header) mac) (withPiece p u)
+          → StandsFor (made (s .header) mac) (signingWith p u)
       after-header long mac keys ek taken =
           let c = h .count in
           let l : 64 ≤ at = omega arith in
@@ -102,7 +95,7 @@ module _ (u : SigningState) (b : u .begun ≡ true) (p : Bytes) where
 
         -- the header is not whole yet
         pub still-short : s .length + length p < 64 → (header : Bytes) → header ≡ paste (s .header) (s .length) p (length p)
-            → Holds (made header (s .code)) (withPiece p u)
+            → StandsFor (made header (s .code)) (signingWith p u)
         still-short fits header e =
             let t = total in
             stands header (s .code)
@@ -128,7 +121,7 @@ module _ (u : SigningState) (b : u .begun ≡ true) (p : Bytes) where
 
           pub now-whole : (mac : Mac) (keys : List (List ℕ)) → keys ≡ keyExpansion 4 10 (s .key)
               → code.Holds mac (blockCipher keys) (covered header ++ rest)
-              → Holds (made header mac) (withPiece p u)
+              → StandsFor (made header mac) (signingWith p u)
           now-whole mac keys ek taken =
               let same : keys ≡ keyExpansion 4 10 (u .key) = ek ∙ ap (keyExpansion 4 10) (its .its-key) in
               let l = whole in
@@ -148,7 +141,7 @@ module _ (u : SigningState) (b : u .begun ≡ true) (p : Bytes) where
               (λ k. rw signed at held)
 
 -- the end
-pub finished : (u : SigningState) (s : Signing) (h : Holds s u) → 64 ≤ length (u .joined) → (r : Bytes) (keys : List (List ℕ))
+pub finished : (u : SigningState) (s : SignState) (h : StandsFor s u) → 64 ≤ length (u .joined) → (r : Bytes) (keys : List (List ℕ))
     → keys ≡ keyExpansion 4 10 (s .key)
     → ((m : Bytes) → code.Holds (s .code) (blockCipher keys) m → r ≡ rfc4493.cmac (blockCipher keys) m)
     → r ≡ signatureOf cmac u

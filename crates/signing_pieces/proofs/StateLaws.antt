@@ -1,112 +1,123 @@
 -- What the calls answer and leave, by what the code's state says.
 -- Assumes nothing.
 use mathlib.Core.Path.{_≡_, refl, sym, ap, ap₂, _∙_}
-use mathlib.Core.Bool.{Bool, true, false, cond, not, true≢false}
+use mathlib.Core.Bool.{Bool, true, false, cond, not, _&&_, _||_, true≢false}
 use mathlib.Core.List.{List, [], _∷_, _++_}
 use Prim.Native.Nat.{ℕ, _+_, _-_, _/_, _%_, _≤_, _<_}
 use native.Mathlib.Omega.{arith}
-use borrow.Author.Tests.{eqb-true, eq-eqb, ne-eqb, ltb-false, not-true, not-false}
-use lib.Dec.{eqb, ltb}
+use borrow.Author.Tests.{eqb-true, eq-eqb, ne-eqb, ltb-false, leb-true, not-true, not-false}
+use lib.Dec.{eqb, ltb, leb}
 use lib.ListN.{length, take, drop, length-append, length-drop, take-append-drop}
 use lib.Seq.{paste, take-all, take-append-le, drop-append-le, length-take-le}
 use Rattle.octets.specs.Numbers.{bytesAt, littleEndian}
 use Rattle.octets.specs.Same.{sameBytes}
+use Rattle.octets.proofs.BoolLaws.{and-true}
 use Rattle.octets.proofs.Paste.{paste-all}
 use Rattle.cmac.specs.declared.Mac.{Mac}
 use Rattle.protocol.specs.Bytes.{Bytes}
 use Rattle.protocol.specs.Answer.{Answer, done, refused, answerNumber, whenDone, Test, firstOf}
 use Rattle.protocol.specs.Connection.{longestMessage}
 use Rattle.protocol.specs.InnerHeader.{isInnerHeader}
-use Rattle.protocol.specs.Refusals.{notSigned, badSignature}
+use Rattle.protocol.specs.Refusals.{pieceTooLong, notSigned, badSignature}
 use Rattle.protocol.specs.Signing.{isSigned, withSignedFlag, signatureUnder}
-use Rattle.protocol.specs.SigningPieces.{SigningState, begunUnder, notBegun, withPiece, pieceTests, joinedTests, signFinishTests, verifyFinishTests, signatureOf}
+use Rattle.protocol.specs.SigningPieces.{SigningState, signingUnderKey, noSigning, signingFits, signingWith, signatureOf}
 use Rattle.protocol.specs.Calls.{signBeginning, signPiece, signFinishing, verifyFinishing, onlySigning, onlySignature, withSigning, keyTests, tests, effect, answer, left}
+use Rattle.protocol.specs.Calls.{joinedTests, signFinishTests, verifyFinishTests}
 use Rattle.protocol.specs.Contract.{Returns}
 use Rattle.protocol.specs.Suite.{suite, cmac}
 use Rattle.protocol.proofs.CallLaws.{lines-return, lines-return-done, number-lines}
 use Rattle.protocol.proofs.FirstOf.{first-stays, first-goes-on}
 use Rattle.protocol.proofs.Judging.{passes, line}
 use Rattle.protocol.proofs.SignedBytes.{flagged-append}
-use Rattle.signing_pieces.specs.declared.Signing.{Signing}
-use Rattle.signing_pieces.specs.Running.{UnderWay, Holds}
+use Rattle.signing_pieces.specs.declared.SignState.{SignState}
+use Rattle.signing_pieces.specs.Running.{takes, joinedNumber, UnderWay, StandsFor}
+use Rattle.signing_pieces.specs.Contracts.{HandsOn, Begins, Takes}
 
 -- ---- the begin
 
 begin-left : (key : Bytes) (b : Bool) → eqb (length key) 16 ≡ b
-    → (left suite (signBeginning key) (onlySigning notBegun)) .signing ≡ cond b (begunUnder key) notBegun
+    → (left suite (signBeginning key) (onlySigning noSigning)) .signing ≡ cond b (signingUnderKey key) noSigning
 unfolding tests effect
-begin-left key true e =
-    ap (λ (x : Bool). (whenDone (cond (not x) (refused 40) (done 0)) (λ n. withSigning (begunUnder key) (onlySigning notBegun)) (onlySigning notBegun)) .signing) e
-begin-left key false e =
-    ap (λ (x : Bool). (whenDone (cond (not x) (refused 40) (done 0)) (λ n. withSigning (begunUnder key) (onlySigning notBegun)) (onlySigning notBegun)) .signing) e
+begin-left key b e =
+    ap (λ (x : Bool). (whenDone (cond (not x) (refused 40) (done 0)) (λ n. withSigning (signingUnderKey key) (onlySigning noSigning)) (onlySigning noSigning)) .signing) e
+    ∙ go b
+  where
+    go : (x : Bool)
+        → (whenDone (cond (not x) (refused 40) (done 0)) (λ n. withSigning (signingUnderKey key) (onlySigning noSigning)) (onlySigning noSigning)) .signing
+        ≡ cond x (signingUnderKey key) noSigning
+    go true = refl
+    go false = refl
 
-pub begun-holds : (key own header : Bytes) (mac : Mac) → length key ≡ 16 → own ≡ key
-    → Holds (record { key = own; header = header; code = mac; length = 0; begun = 1 }) ((left suite (signBeginning key) (onlySigning notBegun)) .signing)
-begun-holds key own header mac l e =
-    rw (begin-left key true (eq-eqb (length key) 16 l))
-    (record {
-      flag = refl;
-      count = refl;
-      no-message = λ f. absurd (true≢false f);
-      under-way = λ t. record { its-key = e; front = refl; chained = λ k. absurd (omega arith) };
-    })
+begin-number : (key : Bytes) → answerNumber (answer suite (signBeginning key) (onlySigning noSigning)) ≡ cond (not (eqb (length key) 16)) 40 0
+unfolding tests
+begin-number key = number-lines (keyTests key) 0
 
-pub not-begun-holds : (key none header : Bytes) (mac : Mac) → (length key ≡ 16 → ⊥)
-    → Holds (record { key = none; header = header; code = mac; length = 0; begun = 0 }) ((left suite (signBeginning key) (onlySigning notBegun)) .signing)
-not-begun-holds key none header mac d =
-    rw (begin-left key false (ne-eqb (length key) 16 d))
-    (record {
+pub ends : (none header : Bytes) (mac : Mac) → StandsFor (record { key = none; header = header; code = mac; length = 0; begun = 0 }) noSigning
+ends none header mac =
+    record {
       flag = refl;
       count = refl;
       no-message = λ f. refl;
       under-way = λ t. absurd (true≢false (sym t));
-    })
+    }
 
-pub begin-number : (key : Bytes) (n : ℕ) → n ≡ cond (not (eqb (length key) 16)) 40 0 → n ≡ answerNumber (answer suite (signBeginning key) (onlySigning notBegun))
-unfolding tests
-begin-number key n e = e ∙ sym (number-lines (keyTests key) 0)
+pub begins : (key own header : Bytes) (mac : Mac) → length key ≡ 16 → own ≡ key
+    → Begins key (record { state = record { key = own; header = header; code = mac; length = 0; begun = 1 }; number = 0; spare = 0 })
+begins key own header mac l e =
+    let sixteen = eq-eqb (length key) 16 l in
+    record {
+      number = sym (begin-number key ∙ ap (λ (b : Bool). cond (not b) 40 0) sixteen);
+      stands =
+          rw (begin-left key true sixteen)
+          (record {
+            flag = refl;
+            count = refl;
+            no-message = λ f. absurd (true≢false f);
+            under-way = λ t. record { its-key = e; front = refl; chained = λ k. absurd (omega arith) };
+          });
+    }
 
-module _ (s : Signing) (u : SigningState) (h : Holds s u) where
-  -- ---- a piece
+pub not-begun : (key : Bytes) (s : SignState) → StandsFor s noSigning → (length key ≡ 16 → ⊥) → Begins key (record { state = s; number = 40; spare = 0 })
+not-begun key s h d =
+    let other = ne-eqb (length key) 16 d in
+    record {
+      number = sym (begin-number key ∙ ap (λ (b : Bool). cond (not b) 40 0) other);
+      stands = rw (begin-left key false other) h;
+    }
 
+-- ---- a piece
+
+module _ (s : SignState) (u : SigningState) (h : StandsFor s u) where
   module _ (p : Bytes) where
-    joined-length : s .length + length p ≡ length (u .joined ++ p)
-    joined-length = ap (λ (n : ℕ). n + length p) (h .count) ∙ sym (length-append (u .joined) p)
+    takes-is : takes s (length p) ≡ signingFits u p
+    takes-is = ap₂ _&&_ (h .flag) (ap (λ (n : ℕ). leb (n + length p) longestMessage) (h .count))
 
-    pub piece-number : (n : ℕ) (b : Bool) → b ≡ ltb longestMessage (s .length + length p) → n ≡ cond b 3 0
-        → n ≡ answerNumber (answer suite (signPiece p) (onlySigning u))
-    unfolding tests
-    piece-number n b eb e =
-        e ∙ ap (λ (x : Bool). cond x 3 0) (eb ∙ ap (ltb longestMessage) joined-length) ∙ sym (number-lines (pieceTests u p) 0)
-
-    piece-left : (b : Bool) → b ≡ ltb longestMessage (s .length + length p) → (left suite (signPiece p) (onlySigning u)) .signing ≡ cond b u (withPiece p u)
+    piece-left : (b : Bool) → takes s (length p) ≡ b → (left suite (signPiece p) (onlySigning u)) .signing ≡ cond b (signingWith p u) u
     unfolding tests effect
     piece-left b e =
-        ap (λ (x : Bool). (whenDone (cond x (refused 3) (done 0)) (λ n. withSigning (withPiece p u) (onlySigning u)) (onlySigning u)) .signing)
-        (sym (e ∙ ap (ltb longestMessage) joined-length))
+        ap (λ (x : Bool). (whenDone (cond (not x) (refused 3) (done 0)) (λ n. withSigning (signingWith p u) (onlySigning u)) (onlySigning u)) .signing)
+        (sym takes-is ∙ e)
         ∙ go b
       where
         go : (x : Bool)
-            → (whenDone (cond x (refused 3) (done 0)) (λ n. withSigning (withPiece p u) (onlySigning u)) (onlySigning u)) .signing ≡ cond x u (withPiece p u)
+            → (whenDone (cond (not x) (refused 3) (done 0)) (λ n. withSigning (signingWith p u) (onlySigning u)) (onlySigning u)) .signing
+            ≡ cond x (signingWith p u) u
         go true = refl
         go false = refl
 
-    pub piece-refused : true ≡ ltb longestMessage (s .length + length p) → Holds s ((left suite (signPiece p) (onlySigning u)) .signing)
-    piece-refused e = rw (piece-left true e) h
+    piece-number : (b : Bool) → takes s (length p) ≡ b → answerNumber (answer suite (signPiece p) (onlySigning u)) ≡ cond (not b) 3 0
+    unfolding tests
+    piece-number b e = number-lines (pieceTooLong u p ∷ []) 0 ∙ ap (λ (x : Bool). cond (not x) 3 0) (sym takes-is ∙ e)
 
-    pub piece-taken : (r : Signing) → false ≡ ltb longestMessage (s .length + length p) → Holds r (withPiece p u)
-        → Holds r ((left suite (signPiece p) (onlySigning u)) .signing)
-    piece-taken r e t = rw (piece-left false e) t
+    pub handed-back : takes s (length p) ≡ false → HandsOn (signPiece p) u (record { state = s; number = 3; spare = 0 })
+    handed-back e = record { number = sym (piece-number false e); stands = rw (piece-left false e) h }
 
-    pub no-message-stays : s .begun ≡ 0 → Holds s (withPiece p u)
-    unfolding withPiece
-    no-message-stays z =
-        let none : u .begun ≡ false = sym (h .flag) ∙ ap not (eq-eqb (s .begun) 0 z) in
-        let same : withPiece p u ≡ u = ap (λ (x : Bool). cond x (record { begun = true; key = u .key; joined = u .joined ++ p }) u) none in
-        rw same h
+    pub handed-on : (r : SignState) → takes s (length p) ≡ true → StandsFor r (signingWith p u)
+        → HandsOn (signPiece p) u (record { state = r; number = 0; spare = 0 })
+    handed-on r e t = record { number = sym (piece-number true e); stands = rw (piece-left true e) t }
 
-  pub is-begun : (s .begun ≡ 0 → ⊥) → u .begun ≡ true
-  is-begun d = sym (h .flag) ∙ ap not (ne-eqb (s .begun) 0 d)
+    takes-begun : takes s (length p) ≡ true → u .begun ≡ true
+    takes-begun e = sym (h .flag) ∙ and-true (not (eqb (s .begun) 0)) (leb (s .length + length p) longestMessage) e .0
 
   -- ---- the joined bytes, once there are 64
 
@@ -147,18 +158,25 @@ module _ (s : Signing) (u : SigningState) (h : Holds s u) where
 
   -- ---- the finish
 
-  pub joined-number : (begins : Bool) (n12 n11 : ℕ) → length (s .header) ≡ 64 → begins ≡ isInnerHeader (s .header) 0
-      → n12 ≡ cond (not begins) 12 0 → n11 ≡ cond (ltb (s .length) 64) 11 n12
-      → n11 ≡ firstOf (joinedTests u)
-  joined-number begins n12 n11 size eb e12 e11 = e11 ∙ ap (λ (k : ℕ). cond (ltb k 64) 11 n12) (h .count) ∙ go (ltb (length (u .joined)) 64) refl
+  short-is : (eqb (s .begun) 0 || ltb (s .length) 64) ≡ ltb (length (u .joined)) 64
+  short-is = go (u .begun) refl
     where
-      go : (b : Bool) → ltb (length (u .joined)) 64 ≡ b → cond b 11 n12 ≡ cond b 11 (cond (not (isInnerHeader (u .joined) 0)) 12 0)
+      go : (b : Bool) → u .begun ≡ b → (eqb (s .begun) 0 || ltb (s .length) 64) ≡ ltb (length (u .joined)) 64
+      go true e = ap₂ (λ (x : Bool) (n : ℕ). x || ltb n 64) (not-true (eqb (s .begun) 0) (h .flag ∙ e)) (h .count)
+      go false e =
+          ap (λ (x : Bool). x || ltb (s .length) 64) (not-false (eqb (s .begun) 0) (h .flag ∙ e))
+          ∙ sym (ap (λ (m : Bytes). ltb (length m) 64) (h .no-message e))
+
+  pub joined-number : length (s .header) ≡ 64 → joinedNumber s ≡ firstOf (joinedTests u)
+  joined-number size =
+      ap (λ (b : Bool). cond b 11 (cond (not (isInnerHeader (s .header) 0)) 12 0)) short-is ∙ go (ltb (length (u .joined)) 64) refl
+    where
+      go : (b : Bool) → ltb (length (u .joined)) 64 ≡ b
+          → _≡_ {A = ℕ} (cond b 11 (cond (not (isInnerHeader (s .header) 0)) 12 0)) (cond b 11 (cond (not (isInnerHeader (u .joined) 0)) 12 0))
       go true e = refl
       go false e =
-          let same = field-is (ltb-false (length (u .joined)) 64 e) size 0 4 (omega arith) in
-          e12
-          ∙ ap (λ (x : Bool). cond (not x) 12 0) eb
-          ∙ ap (λ (x : Bytes). cond (not (sameBytes x (0xFE ∷ 0x53 ∷ 0x4D ∷ 0x42 ∷ []))) 12 0) same
+          ap (λ (x : Bytes). cond (not (sameBytes x (0xFE ∷ 0x53 ∷ 0x4D ∷ 0x42 ∷ []))) 12 0)
+          (field-is (ltb-false (length (u .joined)) 64 e) size 0 4 (omega arith))
 
   module _ (n : ℕ) (says : n ≡ firstOf (joinedTests u)) where
     pub long-enough : n ≡ 0 → 64 ≤ length (u .joined)
@@ -192,40 +210,71 @@ module _ (s : Signing) (u : SigningState) (h : Holds s u) where
     abbrev more : List Test
     more = notSigned (u .joined) ∷ badSignature right (u .joined) ∷ []
 
-    returned : (r : ℕ) → r ≡ firstOf (verifyFinishTests u right) → Returns (verifyFinishing u) (onlySigning notBegun) r (onlySigning notBegun)
+    returned : (r : ℕ) → r ≡ firstOf (verifyFinishTests u right) → Returns (verifyFinishing u) (onlySigning noSigning) r (onlySigning noSigning)
     unfolding tests effect
     returned r e =
         record {
           number = e ∙ sym (number-lines (verifyFinishTests u right) 0);
-          leaves = sym (unchanged (answer suite (verifyFinishing u) (onlySigning notBegun)));
+          leaves = sym (unchanged (answer suite (verifyFinishing u) (onlySigning noSigning)));
         }
       where
-        unchanged : (a : Answer) → whenDone a (λ k. onlySigning notBegun) (onlySigning notBegun) ≡ onlySigning notBegun
+        unchanged : (a : Answer) → whenDone a (λ k. onlySigning noSigning) (onlySigning noSigning) ≡ onlySigning noSigning
         unchanged (done k) = refl
         unchanged (refused k) = refl
 
-    pub verify-refused : (n ≡ 0 → ⊥) → Returns (verifyFinishing u) (onlySigning notBegun) n (onlySigning notBegun)
+    pub verify-refused : (n ≡ 0 → ⊥) → Returns (verifyFinishing u) (onlySigning noSigning) n (onlySigning noSigning)
     verify-refused d = returned n (first-stays (joinedTests u) more n says d)
 
     module _ (z : n ≡ 0) (size : length (s .header) ≡ 64) where
       after-first : (r : ℕ) (b : Bool) → isSigned (s .header) ≡ b
           → r ≡ cond (not b) 24 (cond (not (sameBytes (bytesAt 48 16 (u .joined)) right)) 25 0)
-          → Returns (verifyFinishing u) (onlySigning notBegun) r (onlySigning notBegun)
+          → Returns (verifyFinishing u) (onlySigning noSigning) r (onlySigning noSigning)
       after-first r b eb e =
           let same : b ≡ isSigned (u .joined) = sym eb ∙ signed-is (long-enough z) size in
           returned r
           (e ∙ ap (λ (x : Bool). cond (not x) 24 (cond (not (sameBytes (bytesAt 48 16 (u .joined)) right)) 25 0)) same
           ∙ sym (first-goes-on (joinedTests u) more (passes (joinedTests u) n refl says z)))
 
-      pub not-signed : isSigned (s .header) ≡ false → Returns (verifyFinishing u) (onlySigning notBegun) 24 (onlySigning notBegun)
+      pub not-signed : isSigned (s .header) ≡ false → Returns (verifyFinishing u) (onlySigning noSigning) 24 (onlySigning noSigning)
       not-signed e = after-first 24 false e refl
 
       pub compared : (field code : Bytes) (same : Bool) (r : ℕ) → isSigned (s .header) ≡ true → withSignedFlag (s .header) ≡ s .header
           → field ≡ bytesAt 48 16 (s .header) → code ≡ signatureOf cmac u
           → same ≡ sameBytes field code → r ≡ cond (not same) 25 0
-          → Returns (verifyFinishing u) (onlySigning notBegun) r (onlySigning notBegun)
+          → Returns (verifyFinishing u) (onlySigning noSigning) r (onlySigning noSigning)
       unfolding signatureOf
       compared field code same r e kept ef ec es er =
           let its-field : field ≡ bytesAt 48 16 (u .joined) = ef ∙ field-is (long-enough z) size 48 16 (omega arith) in
           let its-code : code ≡ right = ec ∙ ap (signatureUnder cmac (u .key)) (flagged-same (long-enough z) size kept) in
           after-first r true e (er ∙ ap (λ (b : Bool). cond (not b) 25 0) (es ∙ ap₂ sameBytes its-field its-code))
+
+-- ---- a piece, by what the code tests
+
+module _ (s : SignState) (p : Bytes) (fits : Bool) (e : fits ≡ leb (s .length + length p) longestMessage) where
+  tested : (b : Bool) → (not (eqb (s .begun) 0) && fits) ≡ b → takes s (length p) ≡ b
+  tested b t = ap (λ (x : Bool). not (eqb (s .begun) 0) && x) (sym e) ∙ t
+
+  pub refuses : not (not (eqb (s .begun) 0) && fits) ≡ true → Takes s p (record { state = s; number = 3; spare = 0 })
+  refuses t =
+      let none = tested false (not-true (not (eqb (s .begun) 0) && fits) t) in
+      record {
+        any-number = sym (ap (λ (b : Bool). cond b 0 3) none);
+        any-refused = λ f. refl;
+        made = λ u h. handed-back s u h p none;
+      }
+
+  module _ (t : not (not (eqb (s .begun) 0) && fits) ≡ false) where
+    goes-in : takes s (length p) ≡ true
+    goes-in = tested true (not-false (not (eqb (s .begun) 0) && fits) t)
+
+    pub inside : s .length + length p ≤ longestMessage
+    inside = leb-true (s .length + length p) longestMessage (and-true (not (eqb (s .begun) 0)) (leb (s .length + length p) longestMessage) goes-in .1)
+
+    pub taken : (r : SignState) → ((u : SigningState) → StandsFor s u → u .begun ≡ true → StandsFor r (signingWith p u))
+        → Takes s p (record { state = r; number = 0; spare = 0 })
+    taken r f =
+        record {
+          any-number = sym (ap (λ (b : Bool). cond b 0 3) goes-in);
+          any-refused = λ n. absurd (true≢false (sym goes-in ∙ n));
+          made = λ u h. handed-on s u h p r goes-in (f u h (takes-begun s u h p goes-in));
+        }

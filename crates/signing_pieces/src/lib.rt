@@ -9,22 +9,23 @@ use header::filled;
 use header::is_signed;
 use runs::copy;
 ghost use mathlib.Core.Path.{_≡_};
-ghost use mathlib.Core.Bool.{true};
+ghost use mathlib.Core.Logic.{_≢_};
+ghost use mathlib.Core.Bool.{true, cond, not};
 ghost use Prim.Native.Nat.{_+_, _≤_, _<_};
-ghost use lib.Dec.{ltb};
+ghost use lib.Dec.{eqb, leb};
 ghost use lib.ListN.{length};
-ghost use Rattle.protocol.specs.Answer.{answerNumber, firstOf};
 ghost use Rattle.protocol.specs.Connection.{longestMessage};
-ghost use Rattle.protocol.specs.SigningPieces.{SigningState, notBegun, withPiece, joinedTests, signatureOf};
-ghost use Rattle.protocol.specs.Calls.{signBeginning, signPiece, signFinishing, verifyFinishing, onlySigning, onlySignature, answer, left};
+ghost use Rattle.protocol.specs.SigningPieces.{SigningState, noSigning, signingWith, signatureOf};
+ghost use Rattle.protocol.specs.Calls.{signFinishing, verifyFinishing, onlySigning, onlySignature};
 ghost use Rattle.protocol.specs.Contract.{Returns};
 ghost use Rattle.protocol.specs.Suite as suite;
-ghost use Rattle.signing_pieces.specs.Running.{Holds};
+ghost use Rattle.signing_pieces.specs.Running.{joinedNumber, StandsFor};
+ghost use Rattle.signing_pieces.specs.Contracts.{Begins, Takes, Signs, Verifies};
 
-// struct smb3seal_signing, a message under way: any bytes are a state. The first 64 joined bytes are kept as they came, since the flag and
-// the signature may be cut anywhere; the code takes them in once they are all there. A state that was not begun is 0 in every byte.
+// struct smb3seal_sign_state, a message under way: any bytes are a state. The first 64 joined bytes are kept as they came, since the flag
+// and the signature may be cut anywhere; the code takes them in once they are all there. No message is under way where `begun` is 0.
 #[repr(C)]
-pub struct Signing {
+pub struct SignState {
     key: [u8; 16],
     header: [u8; 64],
     code: Mac,
@@ -32,68 +33,79 @@ pub struct Signing {
     begun: u64,
 }
 
-// More bytes would pass the limit.
-fn too_long(length: u64, more: usize) -> bool
-    ensures { λ r. ⌜ r ≡ ltb longestMessage (length + more) ⌝ }
+// struct smb3seal_sign_step: the state handed back, and the number of RULES 2.
+#[repr(C)]
+pub struct SignStep {
+    pub state: SignState,
+    pub number: u32,
+    pub spare: u32,
+}
+
+// No message under way.
+fn ended() -> SignState
+    ensures { λ r. ⌜ StandsFor r noSigning ⌝ }
+{
+    let none = [0u8; 16];
+    let header = [0u8; 64];
+    SignState {
+        key: none,
+        header: header,
+        code: Mac::new(),
+        length: 0,
+        begun: 0,
+    }
+}
+
+// A message begins under the key: 40.
+pub fn begin(key: &[u8]) -> SignStep
+    ensures { λ r. ⌜ Begins (now (key .entry)) r ⌝ }
+{
+    if key.len() != 16 {
+        return SignStep {
+            state: ended(),
+            number: 40,
+            spare: 0,
+        };
+    }
+    let own = bytes_16(key, 0);
+    let header = [0u8; 64];
+    let state = SignState {
+        key: own,
+        header: header,
+        code: Mac::new(),
+        length: 0,
+        begun: 1,
+    };
+    SignStep {
+        state: state,
+        number: 0,
+        spare: 0,
+    }
+}
+
+// The limit is not passed by so many bytes more.
+fn fits(length: u64, more: usize) -> bool
+    ensures { λ r. ⌜ r ≡ leb (length + more) longestMessage ⌝ }
 {
     let limit = connection::longest_message() as u64;
     if limit < length {
-        return true;
+        return false;
     }
-    limit - length < (more as u64)
+    (more as u64) <= limit - length
 }
 
-// 40.
-pub fn begin_number(key: &[u8]) -> u32
-    ensures { λ r. ⌜ r ≡ answerNumber (answer suite.suite (signBeginning (now (key .entry))) (onlySigning notBegun)) ⌝ }
-{
-    refusals::key_number(key, 0)
-}
-
-impl Signing {
-    // A message begins. Refused, it does not, and the state takes no piece in.
-    pub fn begin(key: &[u8]) -> Signing
-        ensures { λ r. ⌜ Holds r ((left suite.suite (signBeginning (now (key .entry))) (onlySigning notBegun)) .signing) ⌝ }
-    {
-        let header = [0u8; 64];
-        if key.len() == 16 {
-            let own = bytes_16(key, 0);
-            return Signing {
-                key: own,
-                header: header,
-                code: Mac::new(),
-                length: 0,
-                begun: 1,
-            };
-        }
-        let none = [0u8; 16];
-        Signing {
-            key: none,
-            header: header,
-            code: Mac::new(),
-            length: 0,
-            begun: 0,
-        }
-    }
-
-    // 3.
-    pub fn piece_number(self, piece: &[u8]) -> u32
-        ensures { λ r. ⌜ ((u : SigningState) → Holds self u → r ≡ answerNumber (answer suite.suite (signPiece (now (piece .entry))) (onlySigning u))) ⌝ }
-    {
-        refuse(3, too_long(self.length, piece.len()), 0)
-    }
-
+impl SignState {
     // The piece goes in behind the header.
-    fn behind_header(self, piece: &[u8]) -> Signing
+    fn behind_header(self, piece: &[u8]) -> SignState
         requires { ⌜ (64 ≤ self .length) × (self .length + length (now piece) ≤ longestMessage) ⌝ }
-        ensures { λ r. ⌜ ((u : SigningState) → Holds self u → u .begun ≡ true → Holds r (withPiece (now (piece .entry)) u)) ⌝ }
+        ensures { λ r. ⌜ ((u : SigningState) → StandsFor self u → u .begun ≡ true → StandsFor r (signingWith (now (piece .entry)) u)) ⌝ }
     {
         let t = aes::table();
         let key = self.key;
         let header = self.header;
         let code = self.code;
         let keys = aes::expand_key(key);
-        Signing {
+        SignState {
             key: key,
             header: header,
             code: code.update(&t, keys, piece),
@@ -103,9 +115,9 @@ impl Signing {
     }
 
     // The piece goes into the header, which it may fill, and the rest of it behind.
-    fn into_header(self, piece: &[u8]) -> Signing
+    fn into_header(self, piece: &[u8]) -> SignState
         requires { ⌜ (self .length < 64) × (self .length + length (now piece) ≤ longestMessage) ⌝ }
-        ensures { λ r. ⌜ ((u : SigningState) → Holds self u → u .begun ≡ true → Holds r (withPiece (now (piece .entry)) u)) ⌝ }
+        ensures { λ r. ⌜ ((u : SigningState) → StandsFor self u → u .begun ≡ true → StandsFor r (signingWith (now (piece .entry)) u)) ⌝ }
     {
         let at = self.length as usize;
         let room = 64 - at;
@@ -113,7 +125,7 @@ impl Signing {
         let header = self.header;
         if piece.len() < room {
             let code = self.code;
-            return Signing {
+            return SignState {
                 key: key,
                 header: filled(header, at, piece),
                 code: code,
@@ -126,7 +138,7 @@ impl Signing {
         let whole = filled(header, at, &piece[..room]);
         let signed = covered(whole);
         let code = Mac::new().update(&t, keys, &signed);
-        Signing {
+        SignState {
             key: key,
             header: whole,
             code: code.update(&t, keys, &piece[room..]),
@@ -135,34 +147,43 @@ impl Signing {
         }
     }
 
-    // The piece follows what was taken in, wherever the cut falls. Refused, the state stays as it is.
-    pub fn piece(self, piece: &[u8]) -> Signing
-        ensures { λ r. ⌜ ((u : SigningState) → Holds self u → Holds r ((left suite.suite (signPiece (now (piece .entry))) (onlySigning u)) .signing)) ⌝ }
+    // The piece follows what is joined, wherever the cut falls: 3. Refused, the state stays as it is.
+    pub fn piece(self, piece: &[u8]) -> SignStep
+        ensures { λ r. ⌜ Takes self (now (piece .entry)) r ⌝ }
     {
-        if too_long(self.length, piece.len()) {
-            return self;
-        }
-        if self.begun == 0 {
-            return self;
+        if !((self.begun != 0) & fits(self.length, piece.len())) {
+            return SignStep {
+                state: self,
+                number: 3,
+                spare: 0,
+            };
         }
         if self.length < 64 {
-            return self.into_header(piece);
+            return SignStep {
+                state: self.into_header(piece),
+                number: 0,
+                spare: 0,
+            };
         }
-        self.behind_header(piece)
+        SignStep {
+            state: self.behind_header(piece),
+            number: 0,
+            spare: 0,
+        }
     }
 
     // 11, 12.
     fn joined_number(self) -> u32
-        ensures { λ r. ⌜ ((u : SigningState) → Holds self u → r ≡ firstOf (joinedTests u)) ⌝ }
+        ensures { λ r. ⌜ r ≡ joinedNumber self ⌝ }
     {
         let header = self.header;
         let line12 = refuse(12, !protocol_id::begins(&header, 0, 0xFE), 0);
-        refuse(11, self.length < 64, line12)
+        refuse(11, (self.begun == 0) | (self.length < 64), line12)
     }
 
     // The signature of the joined bytes, with the flag as set.
     fn signature(self) -> [u8; 16]
-        ensures { λ r. ⌜ ((u : SigningState) → Holds self u → 64 ≤ length (u .joined) → r ≡ signatureOf suite.cmac u) ⌝ }
+        ensures { λ r. ⌜ ((u : SigningState) → StandsFor self u → 64 ≤ length (u .joined) → r ≡ signatureOf suite.cmac u) ⌝ }
     {
         let t = aes::table();
         let key = self.key;
@@ -172,8 +193,10 @@ impl Signing {
     }
 
     // Writes the signature of the joined bytes: 40, 11, 12.
-    pub fn sign(self, signature: &mut [u8]) -> u32
-        ensures { λ r. ⌜ ((u : SigningState) → Holds self u → Returns (signFinishing u) (onlySignature (now (signature .entry))) r (onlySignature (now (signature .exit)))) ⌝ }
+    fn signed(self, signature: &mut [u8]) -> u32
+        ensures { λ r. ⌜ ((r ≡ cond (not (eqb (length (now (signature .entry))) 16)) 40 (joinedNumber self))
+            × (r ≢ 0 → now (signature .exit) ≡ now (signature .entry)))
+            × ((u : SigningState) → StandsFor self u → Returns (signFinishing u) (onlySignature (now (signature .entry))) r (onlySignature (now (signature .exit)))) ⌝ }
     {
         let number = refuse(40, !(signature.len() == 16), self.joined_number());
         if number != 0 {
@@ -185,8 +208,9 @@ impl Signing {
     }
 
     // Verifies the joined bytes: 11, 12, 24, 25.
-    pub fn verify(self) -> u32
-        ensures { λ r. ⌜ ((u : SigningState) → Holds self u → Returns (verifyFinishing u) (onlySigning notBegun) r (onlySigning notBegun)) ⌝ }
+    fn verified(self) -> u32
+        ensures { λ r. ⌜ (joinedNumber self ≢ 0 → r ≡ joinedNumber self)
+            × ((u : SigningState) → StandsFor self u → Returns (verifyFinishing u) (onlySigning noSigning) r (onlySigning noSigning)) ⌝ }
     {
         let number = self.joined_number();
         if number != 0 {
@@ -198,5 +222,29 @@ impl Signing {
         }
         let right = compare::same_16(bytes_16(&header, 48), self.signature());
         refuse(25, !right, 0)
+    }
+
+    // The message ends, and its signature is written.
+    pub fn sign(self, signature: &mut [u8]) -> SignStep
+        ensures { λ r. ⌜ Signs self (now (signature .entry)) r (now (signature .exit)) ⌝ }
+    {
+        let number = self.signed(signature);
+        SignStep {
+            state: ended(),
+            number: number,
+            spare: 0,
+        }
+    }
+
+    // The message ends, and is verified.
+    pub fn verify(self) -> SignStep
+        ensures { λ r. ⌜ Verifies self r ⌝ }
+    {
+        let number = self.verified();
+        SignStep {
+            state: ended(),
+            number: number,
+            spare: 0,
+        }
     }
 }

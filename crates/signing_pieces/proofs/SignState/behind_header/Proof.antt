@@ -5,8 +5,8 @@ use denote.Ref.{now}
 use lib.ListN.{length, length-map}
 use Rattle.signing_pieces.proofs.PieceLaws.{after-header}
 use borrow.Author.Needs.{needs}
-use Rattle.signing_pieces.proofs.Signing.behind_header.Statement.{statement}
-use Rattle.signing_pieces.proofs.Signing.behind_header.Tie as tie
+use Rattle.signing_pieces.proofs.SignState.behind_header.Statement.{statement}
+use Rattle.signing_pieces.proofs.SignState.behind_header.Tie as tie
 
 room : (c : tie.Start) → length (c .args .self .header) ≡ 64
 room c = sym (length-map (c .args .self .header) _) ∙ c .good .0 .1 .1 .1 .0 .1 .0 .1

@@ -5,8 +5,8 @@ use mathlib.Core.List.{List}
 use Prim.Native.Nat.{ℕ}
 use Rattle.signing_pieces.proofs.PieceLaws.{finished}
 use borrow.Author.Needs.{needs}
-use Rattle.signing_pieces.proofs.Signing.signature.Statement.{statement}
-use Rattle.signing_pieces.proofs.Signing.signature.Tie as tie
+use Rattle.signing_pieces.proofs.SignState.signature.Statement.{statement}
+use Rattle.signing_pieces.proofs.SignState.signature.Tie as tie
 
 returns : tie.Need-returns
 returns c =

@@ -11,8 +11,8 @@ use Rattle.octets.proofs.Paste.{part-all}
 use Rattle.aes.specs.BlockCipher.{blockCipher}
 use Rattle.signing_pieces.proofs.PieceLaws.{still-short, now-whole}
 use borrow.Author.Needs.{needs}
-use Rattle.signing_pieces.proofs.Signing.into_header.Statement.{statement}
-use Rattle.signing_pieces.proofs.Signing.into_header.Tie as tie
+use Rattle.signing_pieces.proofs.SignState.into_header.Statement.{statement}
+use Rattle.signing_pieces.proofs.SignState.into_header.Tie as tie
 
 room : (c : tie.Start) → length (c .args .self .header) ≡ 64
 room c = sym (length-map (c .args .self .header) _) ∙ c .good .0 .1 .1 .1 .0 .1 .0 .1
