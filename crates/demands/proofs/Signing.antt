@@ -177,7 +177,7 @@ module _ (s m : Bytes) (size : length s ≡ 16) (long : 64 ≤ length m) where
   unfolding withSignature
   stored-flags = same-bytes (take 48 m) (s ++ drop 64 m) (drop 48 m) 16 4 (omega (arith, l48)) ∙ ap (bytesAt 16 4) (take-append-drop 48 m)
 
-  stored-signature : bytesAt 48 16 (withSignature s m) ≡ s
+  pub stored-signature : bytesAt 48 16 (withSignature s m) ≡ s
   unfolding withSignature
   stored-signature = ap (take 16) (drop-at (take 48 m) (s ++ drop 64 m) 48 l48) ∙ take-at s (drop 64 m) 16 size
 
