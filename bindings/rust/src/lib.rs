@@ -54,7 +54,7 @@ mod trace;
 pub use connection::{Connection, Role};
 pub use refusal::Refusal;
 pub use sealer::Sealer;
-pub use signing::{sign, verify};
+pub use signing::{sign, verify, SignedPieces};
 pub use table::{Login, Opened, Session, Sessions, Table};
 pub use trace::{TraceKind, TraceReader, TraceRecord, TraceWriter};
 
