@@ -50,7 +50,8 @@
  * - Buffers and table of one call do not overlap, a lent number (counter, headers, folded, at) lies in none of them, and each pointer has
  *   as many bytes or records behind it as its length says. The library cannot check this, nor that a counter value is new under its
  *   key, nor that a table is the one that the call before left.
- * - Each function but smb3seal_table_find returns SMB3SEAL_DONE (0), or the number of the one reason for which it refused. After a
+ * - Each function but smb3seal_table_find returns SMB3SEAL_DONE (0), or the number of the one reason for which it refused; those that go
+ *   by pieces return it as the `number` of a step. After a
  *   refusal every byte and every number that was lent is as it was: message, table, counter, headers, folded, chain, keys, trace.
  * - Where several reasons apply, SMB3SEAL_BAD_LENGTH comes first and then the lowest number wins; but 29 stands between 5 and 6, and the
  *   walk over the headers of a compounded message ends at the first header that breaks a rule.
