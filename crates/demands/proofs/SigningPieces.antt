@@ -1,18 +1,18 @@
 -- A message signed or verified in pieces is one message: the state has its key and its joined bytes, which are within the limit.
 -- Assumes nothing.
 use mathlib.Core.Path.{_≡_, refl, sym, ap, ap₂, _∙_}
-use mathlib.Core.Bool.{Bool, true, false, cond, not, _&&_}
+use mathlib.Core.Bool.{Bool, true, false, cond, not}
 use mathlib.Core.List.{List, [], _∷_, _++_, append-assoc, append-nil}
 use Prim.Native.Nat.{ℕ, _+_, _≤_}
 use native.Mathlib.Omega.{arith}
 use borrow.Author.Tests.{leb-true, le-ltb, eqb-true, eq-eqb, not-false}
-use lib.Dec.{eqb, leb, ltb}
+use lib.Dec.{eqb, ltb}
 use lib.ListN.{length, length-append, replicate}
 use Rattle.protocol.specs.Bytes.{Bytes}
 use Rattle.protocol.specs.Answer.{Answer, done, refused, whenDone, judge}
 use Rattle.protocol.specs.Connection.{longestMessage}
 use Rattle.protocol.specs.Signing.{withSignedFlag, withSignature, signatureUnder, signedUnder, signatureField}
-use Rattle.protocol.specs.SigningPieces.{SigningState, signingUnderKey, noSigning, signingFits, signingWith, signatureOf}
+use Rattle.protocol.specs.SigningPieces.{SigningState, noSigning, signingFits, signingWith, signatureOf}
 use Rattle.protocol.specs.Calls.{signingUnder, verifyingUnder, signBeginning, signPiece, signFinishing, verifyFinishing}
 use Rattle.protocol.specs.Calls.{Lent, onlyMessage, onlySigning, onlySignature, withSigning, joinedTests, verifyFinishTests, tests, effect, answer, left}
 use Rattle.protocol.specs.Suite.{suite, cmac}

@@ -128,6 +128,6 @@ abbrev pub badSignature : Bytes → Bytes → Test
 badSignature right m = refuse 25 when not (sameBytes (signatureField m) right)
 
 -- "a lent cipher or signing key (not key material) is not 16, a lent chain value not 64 (on every dialect), or the place for the four keys
--- not 64 bytes long": whether all that is lent has its length
+-- not 64 bytes long"; and, our answer, the place for the signature of a message in pieces not 16: whether all that is lent has its length
 abbrev pub badLength : Bool → Test
 badLength fits = refuse 40 when not fits

@@ -1,13 +1,12 @@
 -- A piece after a state that stands for the pieces before it: what the new state stands for, wherever the cut falls.
 -- Assumes nothing.
-use mathlib.Core.Path.{_≡_, refl, sym, ap, ap₂, _∙_}
+use mathlib.Core.Path.{_≡_, sym, ap, ap₂, _∙_}
 use mathlib.Core.Bool.{true, true≢false}
-use mathlib.Core.List.{List, [], _∷_, _++_, append-assoc}
+use mathlib.Core.List.{List, _++_, append-assoc}
 use Prim.Native.Nat.{ℕ, _+_, _≤_, _<_}
 use native.Mathlib.Omega.{arith}
-use lib.Dec.{eqb}
-use lib.ListN.{length, take, drop, replicate, length-append, take-append-drop}
-use lib.Seq.{paste, take-length, take-all, take-at, take-append-le, take-paste, length-paste, length-take-le}
+use lib.ListN.{length, take, replicate, length-append}
+use lib.Seq.{paste, take-length, take-all, take-at, take-append-le, take-paste, length-paste}
 use Rattle.aes.specs.KeyExpansion.{keyExpansion}
 use Rattle.aes.specs.BlockCipher.{blockCipher}
 use Rattle.cmac.specs.declared.Mac.{Mac}

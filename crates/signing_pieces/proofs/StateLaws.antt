@@ -3,11 +3,11 @@
 use mathlib.Core.Path.{_≡_, refl, sym, ap, ap₂, _∙_}
 use mathlib.Core.Bool.{Bool, true, false, cond, not, _&&_, _||_, true≢false}
 use mathlib.Core.List.{List, [], _∷_, _++_}
-use Prim.Native.Nat.{ℕ, _+_, _-_, _/_, _%_, _≤_, _<_}
+use Prim.Native.Nat.{ℕ, _+_, _/_, _%_, _≤_}
 use native.Mathlib.Omega.{arith}
-use borrow.Author.Tests.{eqb-true, eq-eqb, ne-eqb, ltb-false, leb-true, not-true, not-false}
+use borrow.Author.Tests.{eq-eqb, ne-eqb, ltb-false, leb-true, not-true, not-false}
 use lib.Dec.{eqb, ltb, leb}
-use lib.ListN.{length, take, drop, length-append, length-drop, take-append-drop}
+use lib.ListN.{length, take, drop, length-drop, take-append-drop}
 use lib.Seq.{paste, take-all, take-append-le, drop-append-le, length-take-le}
 use Rattle.octets.specs.Numbers.{bytesAt, littleEndian}
 use Rattle.octets.specs.Same.{sameBytes}
@@ -30,7 +30,7 @@ use Rattle.protocol.proofs.FirstOf.{first-stays, first-goes-on}
 use Rattle.protocol.proofs.Judging.{passes, line}
 use Rattle.protocol.proofs.SignedBytes.{flagged-append}
 use Rattle.signing_pieces.specs.declared.SignState.{SignState}
-use Rattle.signing_pieces.specs.Running.{takes, joinedNumber, UnderWay, StandsFor}
+use Rattle.signing_pieces.specs.Running.{takes, joinedNumber, StandsFor}
 use Rattle.signing_pieces.specs.Contracts.{HandsOn, Begins, Takes}
 
 -- ---- the begin

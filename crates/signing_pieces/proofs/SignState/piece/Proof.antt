@@ -1,6 +1,5 @@
 -- Right because each way takes the piece in where it belongs, or leaves the state as it is.
 -- Assumes nothing.
-use native.Mathlib.Omega.{arith}
 use denote.Ref.{now}
 use Rattle.signing_pieces.proofs.StateLaws.{refuses, inside, taken}
 use borrow.Author.Needs.{needs}

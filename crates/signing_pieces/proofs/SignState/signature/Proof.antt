@@ -1,8 +1,5 @@
 -- Right because the code has taken in the whole message as it is signed.
 -- Assumes nothing.
-use mathlib.Core.Path.{_≡_, sym, ap, _∙_}
-use mathlib.Core.List.{List}
-use Prim.Native.Nat.{ℕ}
 use Rattle.signing_pieces.proofs.PieceLaws.{finished}
 use borrow.Author.Needs.{needs}
 use Rattle.signing_pieces.proofs.SignState.signature.Statement.{statement}
