@@ -21,8 +21,8 @@ use Rattle.protocol.specs.InnerHeader.{isInnerHeader}
 use Rattle.protocol.specs.Refusals.{pieceTooLong, notSigned, badSignature}
 use Rattle.protocol.specs.Signing.{isSigned, withSignedFlag, signatureUnder}
 use Rattle.protocol.specs.SigningPieces.{SigningState, signingUnderKey, noSigning, signingFits, signingWith, signatureOf}
-use Rattle.protocol.specs.Calls.{signBeginning, signPiece, signFinishing, verifyFinishing, onlySigning, onlySignature, withSigning, keyTests, tests, effect, answer, left}
-use Rattle.protocol.specs.Calls.{joinedTests, signFinishTests, verifyFinishTests}
+use Rattle.protocol.specs.Calls.{signBeginning, signPiece, signFinishing, verifyFinishing, onlySigning, onlySignature, withSigning}
+use Rattle.protocol.specs.Calls.{keyTests, joinedTests, signFinishTests, verifyFinishTests, tests, effect, answer, left}
 use Rattle.protocol.specs.Contract.{Returns}
 use Rattle.protocol.specs.Suite.{suite, cmac}
 use Rattle.protocol.proofs.CallLaws.{lines-return, lines-return-done, number-lines}
@@ -39,12 +39,12 @@ begin-left : (key : Bytes) (b : Bool) → eqb (length key) 16 ≡ b
     → (left suite (signBeginning key) (onlySigning noSigning)) .signing ≡ cond b (signingUnderKey key) noSigning
 unfolding tests effect
 begin-left key b e =
-    ap (λ (x : Bool). (whenDone (cond (not x) (refused 40) (done 0)) (λ n. withSigning (signingUnderKey key) (onlySigning noSigning)) (onlySigning noSigning)) .signing) e
-    ∙ go b
+    ap by e ∙ go b
   where
-    go : (x : Bool)
-        → (whenDone (cond (not x) (refused 40) (done 0)) (λ n. withSigning (signingUnderKey key) (onlySigning noSigning)) (onlySigning noSigning)) .signing
-        ≡ cond x (signingUnderKey key) noSigning
+    by : Bool → SigningState
+    by x = (whenDone (cond (not x) (refused 40) (done 0)) (λ n. withSigning (signingUnderKey key) (onlySigning noSigning)) (onlySigning noSigning)) .signing
+
+    go : (x : Bool) → by x ≡ cond x (signingUnderKey key) noSigning
     go true = refl
     go false = refl
 

@@ -21,8 +21,9 @@ returns : tie.Need-returns
 returns c =
     let st = c .before .before .before .before .before .before .before in
     let a = st .args in
+    let short = c .before .before .before .if1 .taken in
     λ u h b.
-    still-short u b (now (a .piece)) (a .self) h (room st) (st .pre .0) (omega (arith, c .before .before .before .if1 .taken, st .pre .0)) _ (c .before .filled .ensures)
+    still-short u b (now (a .piece)) (a .self) h (room st) (st .pre .0) (omega (arith, short, st .pre .0)) _ (c .before .filled .ensures)
 
 slice-aggregate-filled : tie.Need-slice-aggregate-filled
 slice-aggregate-filled c =
@@ -36,23 +37,30 @@ filled-requires-2 c κs =
     omega (arith, st .pre .0)
 
 add-t33 : tie.Need-add-t33
-add-t33 c = let st = c .before .before .before .before .before .before .before .before .before .before .before .before .before .before .before .before .before in omega (arith, st .pre .1)
+add-t33 c =
+    let filled = c .before .before .before .before .before .before .before .before .before in
+    let st = filled .before .before .before .before .before .before .before .before in
+    omega (arith, st .pre .1)
 
 returns-2 : tie.Need-returns-2
 returns-2 c =
-    let st = c .before .before .before .before .before .before .before .before .before .before .before .before .before .before .before .before .before in
+    let whole = c .before .before .before .before .before .before .before .before .before in
+    let keys = whole .before .before .expand-key in
+    let tested = whole .before .before .before .before in
+    let st = tested .before .before .before .before in
     let a = st .args in
     let piece = now (a .piece) in
     let cut = 64 - a .self .length in
-    let fits = c .before .before .before .before .before .before .before .before .before .before .before .before .before .if1 .left in
-    let keys = c .before .before .before .before .before .before .before .before .before .before .before .expand-key in
+    let fits = tested .if1 .left in
     let E = blockCipher (keys .result) in
     let l = length-take-le cut piece (omega (arith, fits)) in
-    let taken = c .before .update2 .ensures _ (c .before .before .before .before .update .ensures [] (c .before .before .before .before .before .before .before .new .ensures E)) in
+    let one = c .before .before .before .before in
+    let signed = one .before .before .before .before in
+    let taken = c .before .update2 .ensures _ (one .update .ensures [] (one .before .before .before .new .ensures E)) in
     λ u h b.
     now-whole u b piece (a .self) h (room st) (st .pre .0) (take cut piece) _ _ (omega (arith, l, st .pre .0))
     (ap (λ x. take cut piece ++ x) (part-all piece cut) ∙ take-append-drop cut piece)
-    (c .before .before .before .before .before .before .before .before .before .filled2 .ensures) _ _ (keys .ensures) (rw (c .before .before .before .before .before .before .before .before .covered .ensures) at taken)
+    (whole .filled2 .ensures) _ _ (keys .ensures) (rw (signed .covered .ensures) at taken)
 
 pub into-header-spec : {M : Type 1} → statement M
 into-header-spec =

@@ -9,8 +9,11 @@ use Rattle.signing_pieces.proofs.SignState.joined_number.Tie as tie
 
 returns : tie.Need-returns
 returns c =
-    let s = c .before .before .before .before .before .before .before .args .self in
-    c .refuse2 .ensures ∙ ap (cond (eqb (s .begun) 0 || ltb (s .length) 64) 11) (c .before .before .before .refuse .ensures ∙ ap (λ (b : Bool). cond (not b) 12 0) (c .before .before .before .before .begins .ensures))
+    let line12 = c .before .before .before in
+    let read = line12 .before in
+    let s = read .before .before .before .args .self in
+    c .refuse2 .ensures
+    ∙ ap (cond (eqb (s .begun) 0 || ltb (s .length) 64) 11) (line12 .refuse .ensures ∙ ap (λ (b : Bool). cond (not b) 12 0) (read .begins .ensures))
 
 pub joined-number-spec : {M : Type 1} → statement M
 joined-number-spec =

@@ -16,14 +16,16 @@ use Rattle.signing_pieces.proofs.header.covered.Tie as tie
 returns : tie.Need-returns
 unfolding covered withSignedFlag
 returns c =
-    let flags = c .before .before .before .before .before .before .before .before .u32-bytes in
-    let h = c .before .before .before .before .before .before .before .before .before .before .before .args .t1 in
+    let first = c .before .before .before .before .before in
+    let flags = first .before .before .before .u32-bytes in
+    let read = first .before .before .before .before in
+    let h = read .before .before .args .t1 in
     c .before .copy2 .ensures
     ∙ stored-is (replicate 16 0) _ refl
     ∙ ap (withSignature (replicate 16 0))
-    (c .before .before .before .before .before .copy .ensures
+    (first .copy .ensures
     ∙ flagged-is (flags .result) h (flags .ok .1 .0 .1)
-    ∙ ap (λ (l : List ℕ). take 16 h ++ (l ++ drop 20 h)) (flags .ensures ∙ ap (λ (n : ℕ). toLittleEndian 4 (bitOr n 8)) (c .before .before .before .before .before .before .before .before .before .u32-at .ensures)))
+    ∙ ap (λ (l : List ℕ). take 16 h ++ (l ++ drop 20 h)) (flags .ensures ∙ ap (λ (n : ℕ). toLittleEndian 4 (bitOr n 8)) (read .u32-at .ensures)))
 
 pub covered-spec : {M : Type 1} → statement M
 covered-spec =
