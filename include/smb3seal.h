@@ -42,6 +42,13 @@
  *     smb3seal_sign            a message made ready to send
  *     smb3seal_verify          a received message checked
  *
+ * and the same of a message that arrives, or is made, piece by piece:
+ *
+ *     smb3seal_sign_begin      a message begun under a key
+ *     smb3seal_sign_piece      its next bytes
+ *     smb3seal_sign_finish     its signature
+ *     smb3seal_verify_finish   or whether it verifies
+ *
  * No function allocates, locks, calls back or keeps anything outside of what it is lent: calls on different buffers may run in
  * different threads. Each is total: any numbers, any bytes, any table and any lengths get an answer.
  *
@@ -203,7 +210,7 @@ extern "C" {
 #define SMB3SEAL_UNREADABLE 36 /* no head or record of a lab trace that a reader reads, or the room does not hold it */
 
 /* Lengths that are fixed. A fault of the program, on every dialect. */
-#define SMB3SEAL_BAD_LENGTH 40 /* a key is not 16, a chain value not 64, or the place for the keys not 64 bytes long */
+#define SMB3SEAL_BAD_LENGTH 40 /* a key is not 16, a chain value not 64, the place for the keys not 64, or that for a signature not 16 bytes long */
 
 /* ---- functions */
 
@@ -390,6 +397,84 @@ uint32_t smb3seal_sign(const uint8_t *key, size_t key_len, uint8_t *message, siz
  * Answers 0, or 40, 3, 11, 12, 24, 25.
  */
 uint32_t smb3seal_verify(const uint8_t *key, size_t key_len, const uint8_t *message, size_t message_len);
+
+/*
+ * ---- signing and verifying a message as it arrives
+ *
+ * The pieces of a message may be cut anywhere, and may be empty. The program begins with the key, hands each piece over as it comes, and
+ * finishes: what one smb3seal_verify of all the pieces would answer is the answer, or what one smb3seal_sign would write to 48..64 is the
+ * signature. To give a message up needs no call.
+ *
+ *     struct smb3seal_sign_step step = smb3seal_sign_begin(key, sizeof key);
+ *     while (step.number == 0 && (n = recv(.., bytes, ..)) > 0) step = smb3seal_sign_piece(step.state, bytes, n);
+ *     if (step.number == 0) step = smb3seal_verify_finish(step.state);
+ *     if (step.number != 0) ..
+ *
+ * A state goes in by value and the one to go on with comes back: hand in the latest, and each once. It is the library's: a program stores
+ * it and copies it, and never looks inside. It holds the key: wipe it, and every copy, where the message has ended or is given up, as you
+ * would the key. Any bytes are a state and get an answer; one of zero bytes has no message, and so has one that a refused begin or any
+ * finish handed back: a piece is then 3, and a finish 11.
+ *
+ * After a refused piece the message goes on without that piece, and a finish is about the rest. That is not the message that the peer sent:
+ * give it up.
+ */
+
+struct smb3seal_sign_state {
+    uint8_t key[16];
+    uint8_t header[64];
+    uint8_t chain[16];
+    uint8_t buffer[16];
+    uint64_t filled;
+    uint64_t length;
+    uint64_t begun;
+};
+
+struct smb3seal_sign_step {
+    struct smb3seal_sign_state state; /* to go on with */
+    uint32_t number;                  /* SMB3SEAL_DONE, or why it was refused */
+    uint32_t spare;
+};
+
+/*
+ * Begins a message, to sign or to verify.
+ *
+ * key  reads: SMB3SEAL_KEY_BYTES, the session's signing key
+ *
+ * Answers 0, or 40.
+ */
+struct smb3seal_sign_step smb3seal_sign_begin(const uint8_t *key, size_t key_len);
+
+/*
+ * Takes the next bytes of the message, which stay as they are. A piece with which it would have more than SMB3SEAL_LONGEST_MESSAGE bytes
+ * is refused, and the state handed back is the one handed in.
+ *
+ * state  the one that the call before handed back
+ * piece  reads: the bytes, of any length
+ *
+ * Answers 0, or 3.
+ */
+struct smb3seal_sign_step smb3seal_sign_piece(struct smb3seal_sign_state state, const uint8_t *piece, size_t piece_len);
+
+/*
+ * Gives the signature of the message, with the signed flag taken as set: the program sets 0x00000008 among the Flags at 16..20 and puts the
+ * signature at 48..64 before it sends the message. What these bytes were in the pieces does not count. Ends the message, whatever the
+ * answer.
+ *
+ * state      the one that the call before handed back
+ * signature  writes: 16 bytes
+ *
+ * Answers 0, or 40, 11, 12.
+ */
+struct smb3seal_sign_step smb3seal_sign_finish(struct smb3seal_sign_state state, uint8_t *signature, size_t signature_len);
+
+/*
+ * Says whether the message verifies. Ends the message, whatever the answer. No byte of a message may be acted upon before it is 0.
+ *
+ * state  the one that the call before handed back
+ *
+ * Answers 0, or 11, 12, 24, 25.
+ */
+struct smb3seal_sign_step smb3seal_verify_finish(struct smb3seal_sign_state state);
 
 /*
  * ---- the connection

@@ -44,6 +44,25 @@ pub struct FoldStep {
     pub folded: u32,
 }
 
+#[derive(Clone, Copy)]
+#[repr(C)]
+pub struct SignState {
+    pub key: [u8; 16],
+    pub header: [u8; 64],
+    pub chain: [u8; 16],
+    pub buffer: [u8; 16],
+    pub filled: u64,
+    pub length: u64,
+    pub begun: u64,
+}
+
+#[repr(C)]
+pub struct SignStep {
+    pub state: SignState,
+    pub number: u32,
+    pub spare: u32,
+}
+
 extern "C" {
     pub fn smb3seal_fold(
         chain: *mut u8,
@@ -178,4 +197,13 @@ extern "C" {
         message: *const u8,
         message_len: usize,
     ) -> u32;
+
+    pub fn smb3seal_sign_begin(key: *const u8, key_len: usize) -> SignStep;
+    pub fn smb3seal_sign_piece(state: SignState, piece: *const u8, piece_len: usize) -> SignStep;
+    pub fn smb3seal_sign_finish(
+        state: SignState,
+        signature: *mut u8,
+        signature_len: usize,
+    ) -> SignStep;
+    pub fn smb3seal_verify_finish(state: SignState) -> SignStep;
 }

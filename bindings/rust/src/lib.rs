@@ -56,7 +56,7 @@ pub use connection::{Connection, Role};
 pub use pieces::FoldedPieces;
 pub use refusal::Refusal;
 pub use sealer::Sealer;
-pub use signing::{sign, verify};
+pub use signing::{sign, verify, SignedPieces};
 pub use table::{Login, Opened, Session, Sessions, Table};
 pub use trace::{TraceKind, TraceReader, TraceRecord, TraceWriter};
 

@@ -18,6 +18,7 @@ use Rattle.protocol.specs.Calls.{tests, effect, answer, left}
 use Rattle.demands.specs.Chains.{Chain, starting, put, ChainStep, calling, beginningAt, pieceAt, finishingAt, abandoningAt, goesIn, ifGoesIn, foldedInBy}
 use Rattle.demands.specs.Chains.{foldedInAt, messagesFoldedIn, chainLeft, chainAfter, hashedWith, stringsHashed, Alone, InOrder, ChainSteps}
 use Rattle.demands.specs.Chains.{connectionChain, sessionChain, endMessages, endStrings, EndInOrder, ChainsAgree}
+use Rattle.protocol.specs.Calls.{signBeginning, signPiece, signFinishing, verifyFinishing}
 use Rattle.demands.proofs.CallLaws.{left-alone}
 use Rattle.demands.proofs.ChainLaws.{over, stringsOver, over-then, strings-then, over-length, over-agree}
 
@@ -109,6 +110,10 @@ module _ (P : Primitives) where
   called s (openingUnder c key id) l = leaves s _ refl refl
   called s (signingUnder key) l = leaves s _ refl refl
   called s (verifyingUnder key) l = leaves s _ refl refl
+  called s (signBeginning key) l = leaves s _ refl refl
+  called s (signPiece p) l = leaves s _ refl refl
+  called s (signFinishing u) l = leaves s _ refl refl
+  called s (verifyFinishing u) l = leaves s _ refl refl
   called s (adding a) l = leaves s _ refl refl
   called s (removing i) l = leaves s _ refl refl
   called s (stepping i by) l = leaves s _ refl refl

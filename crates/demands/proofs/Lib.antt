@@ -18,3 +18,4 @@ pub mod Demand3
 pub mod OtherRecords
 pub mod UnderKey
 pub mod Example
+pub mod SigningPieces

@@ -13,6 +13,7 @@ use Rattle.protocol.specs.Pieces.{Underway, notBegun, messageOf}
 use Rattle.protocol.specs.Transform.{Primitives}
 use Rattle.protocol.specs.Calls.{Call, derivation, folding, foldBeginning, foldPiece, foldFinishing, sealingUnder, openingUnder, signingUnder}
 use Rattle.protocol.specs.Calls.{verifyingUnder, adding, removing, stepping, sealing, opening, onlyChain, chainAndUnderway, left}
+use Rattle.protocol.specs.Calls.{signBeginning, signPiece, signFinishing, verifyFinishing}
 
 -- ---- a chain, and the messages under way into it
 
@@ -65,6 +66,10 @@ foldedInBy (sealingUnder c key id) = []
 foldedInBy (openingUnder c key id) = []
 foldedInBy (signingUnder key) = []
 foldedInBy (verifyingUnder key) = []
+foldedInBy (signBeginning key) = []
+foldedInBy (signPiece p) = []
+foldedInBy (signFinishing u) = []
+foldedInBy (verifyFinishing u) = []
 foldedInBy (adding a) = []
 foldedInBy (removing i) = []
 foldedInBy (stepping i by) = []

@@ -11,3 +11,4 @@ pub mod Demand3
 pub mod OtherRecords
 pub mod UnderKey
 pub mod Signing
+pub mod SigningPieces

@@ -7,6 +7,7 @@ pub mod Keys
 pub mod Preauth
 pub mod Pieces
 pub mod Signing
+pub mod SigningPieces
 pub mod SessionTable
 pub mod Refusals
 pub mod Compound

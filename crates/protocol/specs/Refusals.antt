@@ -30,6 +30,10 @@ tooShort m = refuse 2 when leb (length m) 52
 abbrev pub tooLong : Bytes → Test
 tooLong p = refuse 3 when ltb longestMessage (length p)
 
+-- "A piece that would pass the length limit is" 3 where it is signed or verified
+abbrev pub pieceTooLong : Underway → Bytes → Test
+pieceTooLong u p = refuse 3 when not (pieceFits u p)
+
 -- "first four bytes not FD 53 4D 42"
 abbrev pub notTransform : TransformHeader → Test
 notTransform h = refuse 4 when not (h .begins)
@@ -128,6 +132,6 @@ abbrev pub badSignature : Bytes → Bytes → Test
 badSignature right m = refuse 25 when not (sameBytes (signatureField m) right)
 
 -- "a lent cipher or signing key (not key material) is not 16, a lent chain value not 64 (on every dialect), or the place for the four keys
--- not 64 bytes long": whether all that is lent has its length
+-- not 64 bytes long"; and, our answer, the place for the signature of a message in pieces not 16: whether all that is lent has its length
 abbrev pub badLength : Bool → Test
 badLength fits = refuse 40 when not fits

@@ -7,6 +7,7 @@ use Rattle.protocol.specs.Answer.{whenDone}
 use Rattle.protocol.specs.SessionTable.{newRecord}
 use Rattle.protocol.specs.Calls.{Call, derivation, folding, foldBeginning, foldPiece, foldFinishing, sealingUnder, openingUnder, signingUnder, verifyingUnder}
 use Rattle.protocol.specs.Calls.{adding, removing, stepping, sealing, opening, Lent, answer}
+use Rattle.protocol.specs.Calls.{signBeginning, signPiece, signFinishing, verifyFinishing}
 use Rattle.protocol.specs.Suite.{suite, kdf}
 use Rattle.session_record.specs.declared.Session.{Session}
 use Rattle.session_record.specs.Reading.{free, stored, withCounter, stepped}
@@ -32,6 +33,10 @@ changed (sealingUnder c key id) t = t
 changed (openingUnder c key id) t = t
 changed (signingUnder key) t = t
 changed (verifyingUnder key) t = t
+changed (signBeginning key) t = t
+changed (signPiece p) t = t
+changed (signFinishing u) t = t
+changed (verifyFinishing u) t = t
 
 -- and in every other case nothing: t is lent, t′ is left
 abbrev pub Exactly : Call → Lent → List Session → List Session → Type 0
