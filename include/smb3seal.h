@@ -261,7 +261,7 @@ struct smb3seal_fold_state {
     uint64_t hash[8];
     uint8_t buffer[128];
     uint64_t count;
-    size_t joined;
+    uint64_t joined;
     uint8_t head[12];
     uint8_t underway;
     uint8_t spare[3];

@@ -31,7 +31,7 @@ pub struct FoldState {
     pub hash: [u64; 8],
     pub buffer: [u8; 128],
     pub count: u64,
-    pub joined: usize,
+    pub joined: u64,
     pub head: [u8; 12],
     pub underway: u8,
     pub spare: [u8; 3],

@@ -1,4 +1,4 @@
--- Demand 3, first half: chain values that end equal. RULES 8, 12 and 17.
+-- Demand 3, first half: chain values that end equal. RULES 8 and 12.
 -- Over any primitives.
 -- Assumes nothing.
 use mathlib.Core.Path.{_≡_}

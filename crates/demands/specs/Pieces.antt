@@ -1,4 +1,4 @@
--- A message that is folded as it arrives is folded as one, wherever the cuts fall: RULES 17.
+-- A message that is folded as it arrives is folded as one, wherever the cuts fall: RULES 8.
 -- Over any primitives; the theorem is about the suite.
 -- Assumes nothing.
 use mathlib.Core.Path.{_≡_}

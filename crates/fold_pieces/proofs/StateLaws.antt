@@ -24,14 +24,6 @@ use Rattle.fold_pieces.specs.declared.FoldStep.{FoldStep}
 use Rattle.fold_pieces.specs.State.{Hashes, StandsFor, takes, ends}
 use Rattle.fold_pieces.specs.Contracts.{HandsOn, AnyPiece}
 
--- n more, under a limit
-pub room-for : (j n l : ℕ) → n ≤ l → leb j (l - n) ≡ leb (j + n) l
-room-for j n l h = go (leb j (l - n)) refl
-  where
-    go : (b : Bool) → leb j (l - n) ≡ b → b ≡ leb (j + n) l
-    go true e = sym (le-leb (j + n) l (omega (arith, leb-true j (l - n) e)))
-    go false e = sym (lt-leb (j + n) l (omega (arith, leb-false j (l - n) e)))
-
 -- no message: what the hash holds does not count
 pub stands-ended : (s : FoldState) → flag (s .underway) ≡ false → StandsFor s notBegun
 stands-ended s e = record { same-begun = e; hashes = λ b. absurd (true≢false (sym b)) }

@@ -1,4 +1,4 @@
-// A message folded as it arrives (RULES 17): the running hash is handed on from piece to piece.
+// A message folded as it arrives (RULES 8): the running hash is handed on from piece to piece.
 use preauth::FoldAnswer;
 use runs::copy;
 use sha512::Sha512;
@@ -6,9 +6,7 @@ ghost use mathlib.Core.Path.{_≡_};
 ghost use mathlib.Core.Bool.{true};
 ghost use mathlib.Core.List.{List, _++_};
 ghost use Prim.Native.Nat.{ℕ, _+_};
-ghost use lib.Dec.{leb};
 ghost use lib.ListN.{length, take};
-ghost use Rattle.protocol.specs.Connection.{longestMessage};
 ghost use Rattle.protocol.specs.Preauth.{negotiateMessage, setupRequest, setupResponse, moreProcessing};
 ghost use Rattle.protocol.specs.Pieces.{Underway, notBegun};
 ghost use Rattle.protocol.specs.Calls.{foldBeginning, foldPiece};
@@ -21,7 +19,7 @@ ghost use Rattle.fold_pieces.specs.Contracts.{HandsOn, AnyPiece, Finishe
 #[repr(C)]
 pub struct FoldState {
     hash: Sha512,
-    joined: usize,
+    joined: u64,
     head: [u8; 12],
     underway: u8,
     spare: [u8; 3],
@@ -73,32 +71,22 @@ pub fn begin(chain: &[u8]) -> FoldStep
     }
 }
 
-// The limit is not passed by n bytes more.
-fn fits(joined: usize, n: usize) -> bool
-    ensures { λ r. ⌜ r ≡ leb (joined + n) longestMessage ⌝ }
-{
-    let longest = connection::longest_message();
-    if longest < n {
-        return false;
-    }
-    joined <= longest - n
-}
-
 // The first twelve bytes of what is joined, with the piece behind it.
-fn head_with(head: [u8; 12], joined: usize, piece: &[u8]) -> [u8; 12]
+fn head_with(head: [u8; 12], joined: u64, piece: &[u8]) -> [u8; 12]
     ensures { λ r. ⌜ ((m : List ℕ) → joined ≡ length m → take joined head ≡ take 12 m
         → take (joined + length (now (piece .entry))) r ≡ take 12 (m ++ now (piece .entry))) ⌝ }
 {
     if 12 <= joined {
         return head;
     }
-    let room = 12 - joined;
+    let at = joined as usize;
+    let room = 12 - at;
     let mut kept = head;
     if piece.len() < room {
-        copy(&mut kept, joined, piece);
+        copy(&mut kept, at, piece);
         return kept;
     }
-    copy(&mut kept, joined, &piece[..room]);
+    copy(&mut kept, at, &piece[..room]);
     kept
 }
 
@@ -109,7 +97,7 @@ impl FoldState {
             × ((u : Underway) → StandsFor self u → HandsOn (foldPiece (now (piece .entry))) u (r .number) (r .state)) ⌝ }
     {
         let joined = self.joined;
-        if !((self.underway != 0) & fits(joined, piece.len())) {
+        if !((self.underway != 0) & connection::fits(joined, piece.len())) {
             return FoldStep {
                 state: self,
                 number: 23,
@@ -121,7 +109,7 @@ impl FoldState {
         let spare = self.spare;
         let state = FoldState {
             hash: hash.update(piece),
-            joined: joined + piece.len(),
+            joined: joined + piece.len() as u64,
             head: head_with(head, joined, piece),
             underway: self.underway,
             spare: spare,

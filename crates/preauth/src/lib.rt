@@ -48,10 +48,10 @@ pub fn folded_to(a: FoldAnswer, lent: u32) -> u32
 }
 
 // 23 is not given to a message of this length.
-pub fn admits(length: usize) -> bool
+pub fn admits(length: u64) -> bool
     ensures { λ r. ⌜ r ≡ admitsLength length ⌝ }
 {
-    (64 <= length) & (length <= connection::longest_message())
+    (64 <= length) & (length <= connection::longest_message() as u64)
 }
 
 // The status of a message that is long enough to have one.
@@ -80,7 +80,7 @@ fn fold_if(chain: &mut [u8], message: &[u8], allowed: bool) -> FoldAnswer
     if chain.len() != 64 {
         return FoldAnswer::Refused(40);
     }
-    if !admits(message.len()) {
+    if !admits(message.len() as u64) {
         return FoldAnswer::Refused(23);
     }
     if !allowed {

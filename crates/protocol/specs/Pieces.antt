@@ -1,4 +1,5 @@
--- Folding a message as it arrives: RULES 17. A message is begun, takes pieces, and is finished or abandoned.
+-- A message that arrives in pieces: RULES 8. It is begun, takes pieces, and is finished or abandoned. Here it is folded; SigningPieces has the
+-- same of a message that is signed or verified.
 -- Assumes nothing.
 use mathlib.Core.Bool.{Bool, true, false, cond, _&&_}
 use mathlib.Core.List.{[], _++_}
@@ -9,7 +10,8 @@ use Rattle.protocol.specs.Bytes.{Bytes}
 use Rattle.protocol.specs.Connection.{longestMessage}
 use Rattle.protocol.specs.Preauth.{FoldKind, statusAllows}
 
--- what a state stands for: whether a message is under way, "the value the message began from", and "the joined bytes of the pieces not refused"
+-- what a state stands for: whether a message is under way, "the value the message began from" (or its signing key), and "the joined bytes of
+-- the pieces not refused"
 pub record Underway : Type 0 where
   pub begun : Bool
   pub start : Bytes

@@ -1,4 +1,4 @@
--- A message in clear that is signed or verified as it arrives, piece by piece: RULES 15 and 17. `cmac` is a parameter here, as in Signing.
+-- A message in clear that is signed or verified as it arrives, piece by piece: RULES 15. `cmac` is a parameter here, as in Signing.
 -- A message under way is one of Pieces, begun from its key.
 -- Assumes nothing.
 use Rattle.protocol.specs.Bytes.{Bytes}

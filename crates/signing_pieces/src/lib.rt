@@ -12,7 +12,7 @@ ghost use mathlib.Core.Path.{_≡_};
 ghost use mathlib.Core.Logic.{_≢_};
 ghost use mathlib.Core.Bool.{true, cond, not};
 ghost use Prim.Native.Nat.{_+_, _≤_, _<_};
-ghost use lib.Dec.{eqb, leb};
+ghost use lib.Dec.{eqb};
 ghost use lib.ListN.{length};
 ghost use Rattle.protocol.specs.Connection.{longestMessage};
 ghost use Rattle.protocol.specs.Pieces.{Underway, notBegun, withPiece};
@@ -84,17 +84,6 @@ pub fn begin(key: &[u8]) -> SignStep
     }
 }
 
-// The limit is not passed by so many bytes more.
-fn fits(length: u64, more: usize) -> bool
-    ensures { λ r. ⌜ r ≡ leb (length + more) longestMessage ⌝ }
-{
-    let limit = connection::longest_message() as u64;
-    if limit < length {
-        return false;
-    }
-    (more as u64) <= limit - length
-}
-
 impl SignState {
     // The piece goes in behind the header.
     fn behind_header(self, piece: &[u8]) -> SignState
@@ -152,7 +141,7 @@ impl SignState {
     pub fn piece(self, piece: &[u8]) -> SignStep
         ensures { λ r. ⌜ Takes self (now (piece .entry)) r ⌝ }
     {
-        if !((self.begun != 0) & fits(self.length, piece.len())) {
+        if !((self.begun != 0) & connection::fits(self.length, piece.len())) {
             return SignStep {
                 state: self,
                 number: 3,

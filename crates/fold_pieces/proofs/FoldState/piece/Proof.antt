@@ -20,8 +20,8 @@ returns c =
     let e = ap (λ (b : Bool). flag (a .self .underway) && b) (sym (c .before .fits2 .ensures)) ∙ not-true _ (c .if1 .taken) in
     (any-refused (a .self) (now (a .piece)) _ e refl refl, λ u h. piece-refused (a .self) u h (now (a .piece)) e)
 
-add-t14 : tie.Need-add-t14
-add-t14 c =
+add-t15 : tie.Need-add-t15
+add-t15 c =
     let past = c .before .before .before .before in
     let a = past .before .before .before .before .args in
     let fit = and-true (flag (a .self .underway)) _ (not-false _ (past .if1 .left)) .1 in
@@ -39,4 +39,4 @@ returns-2 c =
 
 pub piece-spec : {M : Type 1} → statement M
 piece-spec =
-    tie.close (tie.spec (λ c κs. search needs) returns (λ c κs. search needs) add-t14 (λ c κs. search needs) returns-2)
+    tie.close (tie.spec (λ c κs. search needs) returns (λ c κs. search needs) add-t15 (λ c κs. search needs) returns-2)
