@@ -93,9 +93,9 @@ extern "C" {
  */
 
 #define SMB3SEAL_VERSION_MAJOR 0
-#define SMB3SEAL_VERSION_MINOR 6
+#define SMB3SEAL_VERSION_MINOR 7
 #define SMB3SEAL_VERSION_PATCH 0
-#define SMB3SEAL_VERSION "0.6.0"
+#define SMB3SEAL_VERSION "0.7.0"
 
 /* ---- dialects and ciphers, as MS-SMB2 numbers them */
 
