@@ -18,4 +18,5 @@ pub mod Demand3
 pub mod OtherRecords
 pub mod UnderKey
 pub mod Example
+pub mod PiecesExample
 pub mod SigningPieces
