@@ -1,4 +1,4 @@
--- Demand 3's first half speaks of messages in pieces: a client folds a message in two pieces, while another message that is begun
+-- A list with no message in pieces is in order. And demand 3's first half speaks of messages in pieces: a client folds a message in two pieces, while another message that is begun
 -- meanwhile is abandoned, and the server folds it at once. Over any primitives both lists are in order and fold in the same message, by computation.
 -- Assumes nothing.
 use mathlib.Core.Path.{_≡_, refl, ap}
@@ -12,8 +12,20 @@ use Rattle.protocol.specs.Bytes.{Bytes}
 use Rattle.protocol.specs.Preauth.{freshChain, negotiateMessage}
 use Rattle.protocol.specs.Pieces.{withPiece}
 use Rattle.protocol.specs.Transform.{Primitives}
-use Rattle.protocol.specs.Calls.{folding, tests, effect}
-use Rattle.demands.specs.Chains.{ChainStep, ChainSteps, starting, chainLeft, chainAfter, calling, beginningAt, pieceAt, finishingAt, abandoningAt, endMessages, EndInOrder}
+use Rattle.protocol.specs.Calls.{Call, folding, tests, effect}
+use Rattle.demands.specs.Chains.{ChainStep, ChainSteps, starting, chainLeft, chainAfter, calling, beginningAt, pieceAt, finishingAt, abandoningAt, InOrder, endMessages, EndInOrder}
+
+-- ---- calls alone
+
+abbrev callsAlone : List Call → List ChainStep
+callsAlone [] = []
+callsAlone (c ∷ cs) = calling c ∷ callsAlone cs
+
+pub calls-in-order : (P : Primitives) (cs : List Call) (v : Bytes) → InOrder P (starting v) (callsAlone cs)
+calls-in-order P [] v = tt
+calls-in-order P (c ∷ cs) v = (λ m e k. refl, calls-in-order P cs _)
+
+-- ---- a message in pieces
 
 abbrev beforeFinish : List ChainStep
 beforeFinish = beginningAt 0 ∷ pieceAt 0 (replicate 30 7) ∷ beginningAt 1 ∷ pieceAt 0 (replicate 34 7) ∷ abandoningAt 1 ∷ []
