@@ -10,7 +10,7 @@ use lib.ListN.{length, length-replicate}
 use Rattle.protocol.specs.Bytes.{Bytes}
 use Rattle.protocol.specs.Answer.{Answer, refused, done, whenDone}
 use Rattle.protocol.specs.Preauth.{freshChain, FoldKind, admitted, statusAllows}
-use Rattle.protocol.specs.Pieces.{Underway, begunFrom, notBegun, messageOf, withPiece, finishedValue}
+use Rattle.protocol.specs.Pieces.{Underway, notBegun, messageOf, withPiece, finishedValue}
 use Rattle.protocol.specs.Transform.{Primitives}
 use Rattle.protocol.specs.Calls.{Call, derivation, folding, foldBeginning, foldPiece, foldFinishing, sealingUnder, openingUnder, signingUnder}
 use Rattle.protocol.specs.Calls.{verifyingUnder, adding, removing, stepping, sealing, opening, Lent, onlyChain, chainAndUnderway, withChain}
@@ -125,7 +125,8 @@ module _ (P : Primitives) where
   Began s = (k : ℕ) → FromValue (s .value) (s .states k)
 
   -- the value and the states after a step, where no message was folded in
-  began-put : (s : Chain) (k : ℕ) (u : Underway) (v : Bytes) → v ≡ s .value → Began s → FromValue (s .value) u → Began (record { value = v; states = put k u (s .states) })
+  began-put : (s : Chain) (k : ℕ) (u : Underway) (v : Bytes) → v ≡ s .value → Began s → FromValue (s .value) u
+      → Began (record { value = v; states = put k u (s .states) })
   began-put s k u v e b h j = go (eqb j k)
     where
       go : (x : Bool) → (cond x u (s .states j)) .begun ≡ true → (cond x u (s .states j)) .start ≡ v

@@ -1,5 +1,6 @@
--- A list with no message in pieces is in order. And demand 3's first half speaks of messages in pieces: a client folds a message in two pieces, while another message that is begun
--- meanwhile is abandoned, and the server folds it at once. Over any primitives both lists are in order and fold in the same message, by computation.
+-- A list with no message in pieces is in order. And demand 3's first half speaks of messages in pieces: a client folds a message in two
+-- pieces, while another that is begun meanwhile is abandoned, and the server folds it at once. Over any primitives both lists are in
+-- order and fold in the same message, by computation.
 -- Assumes nothing.
 use mathlib.Core.Path.{_≡_, refl, ap}
 use mathlib.Core.Bool.{Bool, true, false}
@@ -13,7 +14,8 @@ use Rattle.protocol.specs.Preauth.{freshChain, negotiateMessage}
 use Rattle.protocol.specs.Pieces.{withPiece}
 use Rattle.protocol.specs.Transform.{Primitives}
 use Rattle.protocol.specs.Calls.{Call, folding, tests, effect}
-use Rattle.demands.specs.Chains.{ChainStep, ChainSteps, starting, chainLeft, chainAfter, calling, beginningAt, pieceAt, finishingAt, abandoningAt, InOrder, endMessages, EndInOrder}
+use Rattle.demands.specs.Chains.{ChainStep, ChainSteps, starting, chainLeft, chainAfter, calling, beginningAt, pieceAt, finishingAt, abandoningAt}
+use Rattle.demands.specs.Chains.{InOrder, endMessages, EndInOrder}
 
 -- ---- calls alone
 

@@ -2,9 +2,9 @@
 -- Assumes nothing.
 use mathlib.Core.Path.{_≡_, refl, sym, ap, _∙_}
 use mathlib.Core.Logic.{_≢_}
-use mathlib.Core.Bool.{Bool, true, false, cond, _&&_, true≢false}
+use mathlib.Core.Bool.{Bool, true, false, cond}
 use mathlib.Core.List.{List, [], _++_}
-use Prim.Native.Nat.{ℕ, _+_, _≤_, _<_, _^_}
+use Prim.Native.Nat.{ℕ, _+_, _<_, _^_}
 use native.Mathlib.Omega.{arith}
 use borrow.Author.Tests.{eq-eqb, ne-eqb}
 use lib.Dec.{eqb}
@@ -13,18 +13,16 @@ use lib.Seq.{take-all}
 use Rattle.octets.proofs.BoolLaws.{and-true}
 use Rattle.sha512.specs.Code.{Holds}
 use Rattle.protocol.specs.Bytes.{Bytes}
-use Rattle.protocol.specs.Answer.{Answer, done, refused, answerNumber, carried}
-use Rattle.protocol.specs.Connection.{longestMessage}
+use Rattle.protocol.specs.Answer.{Answer, done, refused, carried}
 use Rattle.protocol.specs.Preauth.{FoldKind, admitted, moreProcessing, statusAllows}
 use Rattle.protocol.specs.Pieces.{Underway, messageOf, finishedValue}
-use Rattle.protocol.specs.Calls.{foldFinishing, chainAndUnderway, foldTests, tests, effect, answer}
-use Rattle.protocol.specs.Contract.{Makes}
+use Rattle.protocol.specs.Calls.{foldFinishing, chainAndUnderway, foldTests, tests, effect}
 use Rattle.protocol.specs.Suite.{suite, sha512}
 use Rattle.preauth.proofs.FoldLaws.{refused-40, refused-23, left-out, folded-in, limits}
 use Rattle.fold_pieces.specs.declared.FoldState.{FoldState}
 use Rattle.fold_pieces.specs.declared.FoldStep.{FoldStep}
-use Rattle.fold_pieces.specs.State.{Hashes, StandsFor, ends}
-use Rattle.fold_pieces.specs.Contracts.{FinishedAs, endAnswer, AnyEnd, Closes, AnyFinish, Finishes}
+use Rattle.fold_pieces.specs.State.{StandsFor, ends}
+use Rattle.fold_pieces.specs.Contracts.{FinishedAs, Closes, AnyFinish, Finishes}
 use Rattle.fold_pieces.proofs.HeadLaws.{status-kept}
 use Rattle.fold_pieces.proofs.StateLaws.{ends-is}
 

@@ -1,23 +1,21 @@
 -- What a state that stands for a message answers, by the way out that the code takes, and what the state after it stands for.
 -- Assumes nothing.
-use mathlib.Core.Path.{_≡_, refl, sym, ap, ap₂, _∙_}
+use mathlib.Core.Path.{_≡_, refl, sym, ap, _∙_}
 use mathlib.Core.Logic.{_≢_}
 use mathlib.Core.Bool.{Bool, true, false, cond, not, _&&_, true≢false}
-use mathlib.Core.List.{List, [], _∷_, _++_, append-assoc, append-nil}
-use Prim.Native.Nat.{ℕ, _+_, _-_, _≤_}
-use native.Mathlib.Omega.{arith}
-use borrow.Author.Tests.{eq-eqb, ne-eqb, le-leb, lt-leb, leb-true, leb-false}
-use lib.Dec.{eqb, leb, lit<}
+use mathlib.Core.List.{List, [], _++_, append-assoc}
+use Prim.Native.Nat.{ℕ, _+_}
+use borrow.Author.Tests.{eq-eqb, ne-eqb}
+use lib.Dec.{leb}
 use lib.ListN.{length, take, length-append}
 use Rattle.sha512.specs.Code.{Holds}
-use Rattle.sha512.specs.declared.Sha512.{Sha512}
 use Rattle.protocol.specs.Bytes.{Bytes}
-use Rattle.protocol.specs.Answer.{Answer, done, refused, answerNumber, whenDone}
+use Rattle.protocol.specs.Answer.{done, refused, answerNumber, whenDone}
 use Rattle.protocol.specs.Connection.{longestMessage}
-use Rattle.protocol.specs.Preauth.{FoldKind, admitsLength, admitted, statusAllows}
-use Rattle.protocol.specs.Pieces.{Underway, begunFrom, notBegun, pieceFits, withPiece, messageOf, finishedValue}
-use Rattle.protocol.specs.Calls.{Call, foldBeginning, foldPiece, foldFinishing, Lent, onlyUnderway, chainAndUnderway, foldTests, tests, effect, answer, left}
-use Rattle.protocol.specs.Suite.{suite, sha512}
+use Rattle.protocol.specs.Preauth.{admitsLength, admitted}
+use Rattle.protocol.specs.Pieces.{Underway, begunFrom, notBegun, pieceFits, withPiece, messageOf}
+use Rattle.protocol.specs.Calls.{foldBeginning, foldPiece, Lent, onlyUnderway, tests, effect}
+use Rattle.protocol.specs.Suite.{suite}
 use Rattle.connection.specs.Reading.{flag}
 use Rattle.fold_pieces.specs.declared.FoldState.{FoldState}
 use Rattle.fold_pieces.specs.declared.FoldStep.{FoldStep}

@@ -1,6 +1,6 @@
 -- Right because the hash has taken in the chain value, and nothing is joined.
 -- Assumes nothing.
-use mathlib.Core.Path.{refl, sym}
+use mathlib.Core.Path.{refl}
 use mathlib.Core.List.{[], append-nil}
 use Rattle.fold_pieces.proofs.StateLaws.{begin-refused, begin-done}
 use borrow.Author.Needs.{needs}

@@ -42,7 +42,8 @@ returns-3 c =
     let past = c .before .before .before .before in
     let s = past .before .before .before in
     let a = s .args in
-    λ m e k. keep-part (a .head) m (now (a .piece)) (a .joined) (room s) e k _ _ (omega (arith, past .before .if1 .left)) (past .if2 .left) refl (c .before .copy2 .ensures)
+    let inside = past .before .if1 .left in
+    λ m e k. keep-part (a .head) m (now (a .piece)) (a .joined) (room s) e k _ _ (omega (arith, inside)) (past .if2 .left) refl (c .before .copy2 .ensures)
 
 pub head-with-spec : {M : Type 1} → statement M
 head-with-spec =
