@@ -46,6 +46,7 @@
 mod cipher_key;
 mod connection;
 mod ffi;
+mod pieces;
 mod refusal;
 mod sealer;
 mod signing;
@@ -54,9 +55,10 @@ mod trace;
 
 pub use cipher_key::CipherKey;
 pub use connection::{Connection, Role};
+pub use pieces::FoldedPieces;
 pub use refusal::Refusal;
 pub use sealer::Sealer;
-pub use signing::{sign, verify};
+pub use signing::{sign, verify, SignedPieces};
 pub use table::{Login, Opened, Session, Sessions, Table};
 pub use trace::{rescue_trace, Rescued, TraceKind, TraceReader, TraceRecord, TraceWriter};
 

@@ -56,7 +56,7 @@ refusals! {
     DIRTY_NONCE = 29, "the nonce does not end in zeros";
     OTHER_KEY_SIZE = 35, "the session was added for a cipher of the other key size";
     UNREADABLE = 36, "the trace cannot be read here, or would not be, or its room is full";
-    BAD_LENGTH = 40, "a lent key, chain value or place for keys has the wrong length";
+    BAD_LENGTH = 40, "a lent key, chain value, place for keys or place for a signature has the wrong length";
 }
 
 impl Refusal {

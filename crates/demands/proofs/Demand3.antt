@@ -32,8 +32,9 @@ module _ (P : Primitives) (sound : Sound P) (e : Ends) (h : Premises P e) where
   abbrev record-at : Role → Session
   record-at r = newRecord (P .kdf) (sessionAdded P e r)
 
-  same-chain : sessionChain P (e .chainCalls client) ≡ sessionChain P (e .chainCalls server)
-  same-chain = same-value P (sound .hash-length) (e .chainCalls client) (e .chainCalls server) (h .same-messages)
+  same-chain : sessionChain P (e .chainSteps client) ≡ sessionChain P (e .chainSteps server)
+  same-chain =
+      same-value P (sound .hash-length) (e .chainSteps client) (e .chainSteps server) (h .in-order client) (h .in-order server) (h .same-messages)
 
   abbrev bytes : ℕ
   bytes = cipherKeyBytes (isWide 0x0311 (e .cipher))
