@@ -1,11 +1,11 @@
 -- The key expansion goes on by a round key: four words, made of those nk places before and of the last word. Said once over nk, and then
 -- for a key of four words and for one of eight, which differ in when the last word is substituted.
 use mathlib.Core.Bool.{Bool, true, false, cond, _&&_}
-use mathlib.Core.Path.{_≡_, refl, _∙_, ap, ap₂, sym}
+use mathlib.Core.Path.{_≡_, refl, _∙_, ap, sym}
 use mathlib.Core.List.{List, [], _∷_, _++_, map, reverse}
-use Prim.Native.Nat.{ℕ, zero, suc, _+_, _-_, _*_, _/_, _%_, _<_}
+use Prim.Native.Nat.{ℕ, suc, _+_, _-_, _*_, _/_, _%_, _<_}
 use native.Mathlib.Omega.{arith}
-use borrow.Author.Tests.{eq-eqb, ne-eqb}
+use borrow.Author.Tests.{ne-eqb}
 use lib.Dec.{eqb, ltb}
 use lib.ListN.{length, getD}
 use Rattle.octets.proofs.Elements.{whole}
@@ -119,7 +119,8 @@ unfolding atMultiple
 next-4 n c {key} {k} {r} {ks} h x e m =
     let i : (4 + n) / 4 - 1 ≡ n / 4 = omega arith in
     let z : (4 + n) % 4 ≡ 0 = omega arith in
-    made k _ (step 4 plain-4 n key k _ _ z (m .are) (temp-multiple 4 (4 + n) c _ z (ap xpower i ∙ x)) refl (λ a. refl) (λ a b. refl) (λ a b d. refl)) (m .each) e
+    let t = temp-multiple 4 (4 + n) c _ z (ap xpower i ∙ x) in
+    made k _ (step 4 plain-4 n key k _ _ z (m .are) t refl (λ a. refl) (λ a b. refl) (λ a b d. refl)) (m .each) e
 
 -- ---- a key of eight words
 
@@ -139,11 +140,12 @@ pub even-8 : (n c : ℕ) {key k l r : List ℕ} {ks : List (List ℕ)} → n % 8
 unfolding atMultiple
 even-8 n c {key} {k} {l} {r} {ks} h x e m =
     let i : (8 + n) / 8 - 1 ≡ n / 8 = omega arith in
-    made k _ (step 8 plain-8 n key k _ _ (omega arith) (m .are) (temp-multiple 8 (8 + n) c _ (omega arith) (ap xpower i ∙ x)) refl (λ a. refl) (λ a b. refl) (λ a b d. refl))
-    (m .each) e
+    let t = temp-multiple 8 (8 + n) c _ (omega arith) (ap xpower i ∙ x) in
+    made k _ (step 8 plain-8 n key k _ _ (omega arith) (m .are) t refl (λ a. refl) (λ a b. refl) (λ a b d. refl)) (m .each) e
 
 pub odd-8 : (n : ℕ) {key k l r : List ℕ} {ks : List (List ℕ)} → n % 8 ≡ 4 → r ≡ nextKey k (atMiddle l)
     → Made 8 n key (l ∷ k ∷ ks) → Made 8 (suc (suc (suc (suc n)))) key (r ∷ l ∷ k ∷ ks)
 unfolding atMiddle
 odd-8 n {key} {k} {l} {r} {ks} h e m =
-    made k _ (step 8 plain-8 n key k _ _ (omega arith) (m .are) (temp-middle (8 + n) _ (omega arith)) refl (λ a. refl) (λ a b. refl) (λ a b d. refl)) (m .each) e
+    let t = temp-middle (8 + n) _ (omega arith) in
+    made k _ (step 8 plain-8 n key k _ _ (omega arith) (m .are) t refl (λ a. refl) (λ a b. refl) (λ a b d. refl)) (m .each) e

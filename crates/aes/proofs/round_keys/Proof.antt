@@ -1,5 +1,4 @@
 -- Right because a key of 32 bytes is its two halves, and one of 16 bytes its first.
-use Prim.Native.Nat.{_+_, _≤_}
 use native.Mathlib.Omega.{arith}
 use denote.Ref.{now}
 use lib.ListN.{length}

@@ -1,13 +1,8 @@
 -- Right because the round keys and their number are those of the key, and `ctr::apply` does the rest.
 -- Assumes nothing.
-use mathlib.Core.List.{List}
-use mathlib.Core.Path.{ap, _∙_}
-use Prim.Native.Nat.{ℕ, _+_, _<_, _^_}
-use native.Mathlib.Omega.{arith}
+use Prim.Native.Nat.{_<_}
 use denote.Ref.{now}
-use lib.ListN.{length}
 use Rattle.aes.proofs.KeySizeLaws.{keyed, positive, bounded}
-use Rattle.ctr.specs.Ctr.{ctr, counterBlocks}
 use Rattle.test_primitives.proofs.Laws.{whole}
 use borrow.Author.Needs.{needs}
 use Rattle.test_primitives.proofs.ccm_calls.ctr_sized.Statement.{statement}

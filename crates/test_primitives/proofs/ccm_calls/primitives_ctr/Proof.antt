@@ -11,7 +11,10 @@ ctr-sized-requires c κs =
     ctr-sized (a .key .now) (a .prefix .now) (a .text .now) (rw (c .before .before .is-key-length .ensures) at (c .before .if1 .taken))
 
 returns : tie.Need-returns
-returns c = writes _ _ _ _ (rw (c .before .before .before .before .before .is-key-length .ensures) at (c .before .before .before .before .if1 .taken)) (c .before .before .ctr-sized .ensures)
+returns c =
+    let i = c .before .before .before .before in
+    let t = rw (i .before .is-key-length .ensures) at (i .if1 .taken) in
+    writes _ _ _ _ t (c .before .before .ctr-sized .ensures)
 
 returns-2 : tie.Need-returns-2
 returns-2 c = writes-not _ _ _ (rw (c .before .is-key-length .ensures) at (c .if1 .left))

@@ -6,7 +6,9 @@ use Rattle.test_vectors.proofs.modes.ctr_under.Statement.{statement}
 use Rattle.test_vectors.proofs.modes.ctr_under.Tie as tie
 
 ctr-sized-requires : tie.Need-ctr-sized-requires
-ctr-sized-requires c κs = (sym (c .before .before .is-key-length .ensures) ∙ c .before .if1 .taken, c .before .before .before .before .before .pre .0, c .before .before .before .before .before .pre .1)
+ctr-sized-requires c κs =
+    let p = c .before .before .before .before .before .pre in
+    (sym (c .before .before .is-key-length .ensures) ∙ c .before .if1 .taken, p .0, p .1)
 
 pub ctr-under-spec : {M : Type 1} → statement M
 ctr-under-spec =

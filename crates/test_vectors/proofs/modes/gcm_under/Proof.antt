@@ -6,7 +6,9 @@ use Rattle.test_vectors.proofs.modes.gcm_under.Statement.{statement}
 use Rattle.test_vectors.proofs.modes.gcm_under.Tie as tie
 
 gcm-there-and-back-requires : tie.Need-gcm-there-and-back-requires
-gcm-there-and-back-requires c κs = (sym (c .before .before .is-key-length .ensures) ∙ c .before .if1 .taken, c .before .before .before .before .before .before .pre .0, c .before .before .before .before .before .before .pre .1)
+gcm-there-and-back-requires c κs =
+    let p = c .before .before .before .before .before .before .pre in
+    (sym (c .before .before .is-key-length .ensures) ∙ c .before .if1 .taken, p .0, p .1)
 
 pub gcm-under-spec : {M : Type 1} → statement M
 gcm-under-spec =
