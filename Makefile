@@ -1,4 +1,4 @@
-# make             the archive, the headers, smb3seal-replay and the manual pages, into dist/
+# make             the archive, the headers, smb3seal-replay, smb3seal-rescue and the manual pages, into dist/
 # make demo        a published session, from negotiate to an opened response, step by step
 # make examples    the examples and the demo, run and compared
 # make packaging   headers, symbols, shared object, manual page, install and uninstall, packages: checked
@@ -17,7 +17,8 @@ ARCHIVE = target/staticlib/libsmb3seal.a
 PRIMITIVES = target/staticlib/libtest_primitives.a
 BUILD = target/c
 
-all: dist/libsmb3seal.a dist/smb3seal.h dist/smb3seal_text.h dist/smb3seal.3 dist/smb3seal-replay dist/smb3seal-replay.1
+TOOLS = smb3seal-replay smb3seal-rescue
+all: dist/libsmb3seal.a dist/smb3seal.h dist/smb3seal_text.h dist/smb3seal.3 $(TOOLS:%=dist/%) $(TOOLS:%=dist/%.1)
 
 # rt decides by itself what has to be proved again, and runs its own jobs beside each other.
 RATTLE := crates.txt $(shell find crates -name '*.rt' -o -name '*.antt')
@@ -29,14 +30,14 @@ target/staticlib/lib%.a: $(RATTLE)
 	@rt staticlib $* > target/$*.log 2>&1 || { cat target/$*.log; exit 1; }
 	@touch $@
 
-# The program that replays lab traces: rt proves, links and tries it.
-target/bin/replay: $(RATTLE)
+# The programs that replay and rescue lab traces: rt proves, links and tries them.
+target/bin/%: $(RATTLE)
 	@mkdir -p target
 	@echo "proving and building $@"
-	@rt check replay > target/replay.log 2>&1 || { cat target/replay.log; exit 1; }
+	@rt check $* > target/$*.log 2>&1 || { cat target/$*.log; exit 1; }
 	@touch $@
 
-dist/smb3seal-replay: target/bin/replay
+$(TOOLS:%=dist/%): dist/smb3seal-%: target/bin/%
 	@mkdir -p dist
 	cp $< $@
 

@@ -4,9 +4,10 @@
 #include <string.h>
 #include <time.h>
 
-enum { LONGEST = 1048576, POOL = LONGEST + 131072, MOST = 1024, LINE = 64 };
+/* TOGETHER: bytes of a batch of several pieces. */
+enum { LONGEST = 8388608, TOGETHER = 1048576, POOL = LONGEST + 131072, MOST = 1024, LINE = 64 };
 
-#define AT_EACH_SIZE(work) {work, 64}, {work, 1024}, {work, 65536}, {work, LONGEST}
+#define AT_EACH_SIZE(work) {work, 64}, {work, 1024}, {work, 65536}, {work, 1048576}, {work, LONGEST}
 
 const struct task tasks[TASKS] = {
     AT_EACH_SIZE(CCM_SEAL), AT_EACH_SIZE(CCM_OPEN), AT_EACH_SIZE(GCM_SEAL), AT_EACH_SIZE(GCM_OPEN),
@@ -136,7 +137,7 @@ int batch_fill(struct task t)
     write_strings();
     task = t;
     stride = (piece_bytes(t) + LINE - 1) / LINE * LINE;
-    count = LONGEST / (t.n + LINE);
+    count = TOGETHER / (t.n + LINE);
     count = count == 0 ? 1 : count > MOST ? MOST : count;
     for (size_t i = 0; i < count * stride; i++) memory[i] = (uint8_t)(i * 31 + 1);
     for (size_t i = 0; i < count && is_message(t.work); i++) write_message(memory + i * stride, t.n, i);

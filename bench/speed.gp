@@ -1,4 +1,4 @@
-# speed.gp SPEED.csv SPEED.png: four panels, a row for each library, a dot for each size. 1 MiB is left out: it lies on 64 KiB.
+# speed.gp SPEED.csv SPEED.png: four panels, a row for each library, a dot for each size. 1 MiB and 8 MiB are left out: they lie on 64 KiB.
 csv = ARG1
 set datafile separator ','
 set terminal pngcairo size 900,740 font 'DejaVu Sans,10' background '#ffffff'

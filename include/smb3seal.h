@@ -93,9 +93,9 @@ extern "C" {
  */
 
 #define SMB3SEAL_VERSION_MAJOR 0
-#define SMB3SEAL_VERSION_MINOR 7
+#define SMB3SEAL_VERSION_MINOR 9
 #define SMB3SEAL_VERSION_PATCH 0
-#define SMB3SEAL_VERSION "0.7.0"
+#define SMB3SEAL_VERSION "0.9.0"
 
 /* ---- dialects and ciphers, as MS-SMB2 numbers them */
 
@@ -117,7 +117,7 @@ extern "C" {
 #define SMB3SEAL_KEY_BYTES 16            /* a cipher or signing key */
 #define SMB3SEAL_CHAIN_BYTES 64          /* a preauthentication integrity hash value */
 #define SMB3SEAL_KEYS_BYTES 64           /* the four keys that smb3seal_derive writes */
-#define SMB3SEAL_LONGEST_MESSAGE 1048576 /* bytes behind the transform header, and of a message that is folded, signed or verified */
+#define SMB3SEAL_LONGEST_MESSAGE 8454144 /* bytes behind the transform header, and of a message that is folded, signed or verified */
 
 /* ---- where smb3seal_derive writes each key */
 
@@ -163,7 +163,7 @@ extern "C" {
 
 /* The message as it arrived, before any decryption. */
 #define SMB3SEAL_TOO_SHORT 2     /* the whole message has at most 52 bytes */
-#define SMB3SEAL_TOO_LONG 3      /* more than 1,048,576 bytes behind the transform header, or in a message to sign or verify */
+#define SMB3SEAL_TOO_LONG 3      /* more than 8,454,144 bytes behind the transform header, or in a message to sign or verify */
 #define SMB3SEAL_NOT_TRANSFORM 4 /* the message does not begin FD 53 4D 42: it is not sealed, so the program should not open it */
 #define SMB3SEAL_BAD_FLAGS 5     /* the transform header's Flags are not 0x0001 */
 #define SMB3SEAL_OTHER_SESSION 6 /* the transform header's SessionId is not the session's; with a session table, no used record has the id */
@@ -197,7 +197,7 @@ extern "C" {
 #define SMB3SEAL_TABLE_FULL 22 /* no record is free for the session to add */
 
 /* Folding. Disconnect: no negotiate or session setup message has such a length. */
-#define SMB3SEAL_FOLD_LENGTH 23 /* the message has under 64 or over 1,048,576 bytes, or would with this piece */
+#define SMB3SEAL_FOLD_LENGTH 23 /* the message has under 64 or over 8,454,144 bytes, or would with this piece */
 
 /* Verifying. A server fails the request with STATUS_ACCESS_DENIED, a client discards the message; both may disconnect. */
 #define SMB3SEAL_NOT_SIGNED 24    /* the signed flag (0x00000008 of Flags, bytes 16..20) is missing */
@@ -650,9 +650,9 @@ uint32_t smb3seal_table_open(const struct smb3seal_session *table, size_t table_
  * start of the trace.
  */
 
-#define SMB3SEAL_TRACE_EDITION 1               /* of the format that is written */
+#define SMB3SEAL_TRACE_EDITION 2               /* of the format that is written; editions 1 and 2 are read */
 #define SMB3SEAL_TRACE_HEAD_BYTES 4            /* a trace's head, and the head before each payload */
-#define SMB3SEAL_TRACE_LONGEST_PAYLOAD 1048628 /* bytes of a payload; the shortest has 1 */
+#define SMB3SEAL_TRACE_LONGEST_PAYLOAD 8454196 /* bytes of a payload, in edition 1 1,048,628; the shortest has 1 */
 #define SMB3SEAL_TRACE_SESSION_BYTES 24        /* the payload of a lab session */
 
 #define SMB3SEAL_TRACE_NEGOTIATE 0 /* a negotiate request or response */
@@ -663,7 +663,7 @@ uint32_t smb3seal_table_open(const struct smb3seal_session *table, size_t table_
 /*
  * Writes the head of a trace at its start.
  *
- * edition  SMB3SEAL_TRACE_EDITION
+ * edition  SMB3SEAL_TRACE_EDITION; to edition 1, which is read and not written, it answers 36
  * dialect  SMB3SEAL_DIALECT_.., or any number
  * cipher   SMB3SEAL_CIPHER_.., or any number up to 255
  * trace    writes: SMB3SEAL_TRACE_HEAD_BYTES at its start; the rest stays as it is
@@ -712,6 +712,26 @@ uint32_t smb3seal_trace_read_head(const uint8_t *trace, size_t trace_len, uint16
  */
 uint32_t smb3seal_trace_read(const uint8_t *trace, size_t trace_len, size_t *at, uint32_t *kind, uint32_t *from_server,
                              size_t *payload, size_t *payload_len);
+
+/*
+ * Copies what is good of a damaged trace, so that it reads whole, and lists what is dropped. After a record that cannot be read it takes
+ * up again at the earliest place where there is one of a negotiate, setup or sealed message whose payload begins FE 53 4D 42 or
+ * FD 53 4D 42; where there is none, the gap runs to the end. Kept and dropped bytes together are the trace behind its head, each byte
+ * once. A trace with no gap comes out as it is. A lab session in a gap is lost, and with it the key of its messages.
+ *
+ * It answers 36 where the head cannot be read, and where rescued or gaps has too little room; room for trace_len bytes and for
+ * 2 * (trace_len / 9 + 1) numbers is always enough. Whatever the trace holds, the time is in proportion to its length.
+ *
+ * trace    reads: the whole trace, with its head, of either edition
+ * rescued  writes: the head and the good records; the rest stays as it is
+ * gaps     writes: two numbers for each gap, the place of its first byte in the trace and its length; the rest stays as it is
+ * written  writes: the number of bytes in rescued
+ * count    writes: the number of gaps
+ *
+ * Answers 0, or 36.
+ */
+uint32_t smb3seal_trace_rescue(const uint8_t *trace, size_t trace_len, uint8_t *rescued, size_t rescued_len, uint64_t *gaps,
+                               size_t gaps_len, size_t *written, size_t *count);
 
 #ifdef __cplusplus
 }

@@ -13,7 +13,7 @@ static inline const char *smb3seal_text(uint32_t number)
     case SMB3SEAL_DONE: return "done";
     case SMB3SEAL_NOT_ENCRYPTING: return "this connection does not encrypt: dialect, role, setting or cipher";
     case SMB3SEAL_TOO_SHORT: return "the message is not longer than a transform header";
-    case SMB3SEAL_TOO_LONG: return "the message is longer than 1,048,576 bytes, those behind its transform header if it has one";
+    case SMB3SEAL_TOO_LONG: return "the message is longer than 8,454,144 bytes, those behind its transform header if it has one";
     case SMB3SEAL_NOT_TRANSFORM: return "the message does not begin with a transform header";
     case SMB3SEAL_BAD_FLAGS: return "the transform header's Flags are not 0x0001";
     case SMB3SEAL_OTHER_SESSION: return "the transform header names another session, or the table has no session of this id";
@@ -33,7 +33,7 @@ static inline const char *smb3seal_text(uint32_t number)
     case SMB3SEAL_ID_ZERO: return "the id of the session to add is 0";
     case SMB3SEAL_ID_TAKEN: return "a session with this id is in the table";
     case SMB3SEAL_TABLE_FULL: return "the session table is full";
-    case SMB3SEAL_FOLD_LENGTH: return "a message to fold has under 64 or over 1,048,576 bytes";
+    case SMB3SEAL_FOLD_LENGTH: return "a message to fold has under 64 or over 8,454,144 bytes";
     case SMB3SEAL_NOT_SIGNED: return "the message is not signed";
     case SMB3SEAL_BAD_SIGNATURE: return "the signature differs";
     case SMB3SEAL_DIRTY_NONCE: return "the nonce does not end in zeros";

@@ -11,18 +11,18 @@ MANDIR ?= $(PREFIX)/share/man
 
 HEADERS = smb3seal.h smb3seal_text.h
 INSTALLED = $(HEADERS:%=$(INCLUDEDIR)/%) $(LIBDIR)/libsmb3seal.a $(LIBDIR)/pkgconfig/smb3seal.pc $(MANDIR)/man3/smb3seal.3 \
-    $(BINDIR)/smb3seal-replay $(MANDIR)/man1/smb3seal-replay.1
+    $(TOOLS:%=$(BINDIR)/%) $(TOOLS:%=$(MANDIR)/man1/%.1)
 
 # Copies what `make` built, so that it can be run by a user who has no rt.
 install:
-	@test -f dist/libsmb3seal.a -a -f dist/smb3seal.3 -a -f dist/smb3seal-replay || $(MAKE) --no-print-directory all
+	@test -f dist/libsmb3seal.a -a -f dist/smb3seal.3 -a -f dist/smb3seal-replay -a -f dist/smb3seal-rescue || $(MAKE) --no-print-directory all
 	install -d -m 755 $(DESTDIR)$(INCLUDEDIR) $(DESTDIR)$(LIBDIR)/pkgconfig $(DESTDIR)$(MANDIR)/man3 \
 		$(DESTDIR)$(BINDIR) $(DESTDIR)$(MANDIR)/man1
 	install -m 644 $(HEADERS:%=dist/%) $(DESTDIR)$(INCLUDEDIR)
 	install -m 644 dist/libsmb3seal.a $(DESTDIR)$(LIBDIR)
 	install -m 644 dist/smb3seal.3 $(DESTDIR)$(MANDIR)/man3
-	install -m 755 dist/smb3seal-replay $(DESTDIR)$(BINDIR)
-	install -m 644 dist/smb3seal-replay.1 $(DESTDIR)$(MANDIR)/man1
+	install -m 755 $(TOOLS:%=dist/%) $(DESTDIR)$(BINDIR)
+	install -m 644 $(TOOLS:%=dist/%.1) $(DESTDIR)$(MANDIR)/man1
 	version=$$(sed -n 's/^#define SMB3SEAL_VERSION "\(.*\)"/\1/p' dist/smb3seal.h) && \
 	sed -e 's|@PREFIX@|$(PREFIX)|' -e 's|@LIBDIR@|$(LIBDIR)|' -e 's|@INCLUDEDIR@|$(INCLUDEDIR)|' -e "s|@VERSION@|$$version|" \
 		packaging/smb3seal.pc.in > $(DESTDIR)$(LIBDIR)/pkgconfig/smb3seal.pc

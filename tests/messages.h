@@ -6,7 +6,7 @@
 
 #include "call.h"
 
-enum { TRANSFORM = 52, HEADER = 64, LIMIT = 1048576, ROOM = TRANSFORM + LIMIT + 1, SESSION = 5, OPLOCK_BREAK = 0x12 };
+enum { TRANSFORM = 52, HEADER = 64, LIMIT = 8454144, ROOM = TRANSFORM + LIMIT + 1, SESSION = 5, OPLOCK_BREAK = 0x12 };
 
 /* A number in n little-endian bytes. */
 void put(uint8_t *at, uint64_t value, size_t n);

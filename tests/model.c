@@ -7,7 +7,7 @@
 
 #include "openssl_aead.h"
 
-enum { TRANSFORM = 52, HEADER = 64, LIMIT = 1048576, RELATED = 4, SIGNED = 8, CLIENT = 0, SERVER = 1 };
+enum { TRANSFORM = 52, HEADER = 64, LIMIT = 8454144, RELATED = 4, SIGNED = 8, CLIENT = 0, SERVER = 1 };
 
 static uint64_t little_endian(const uint8_t *at, size_t n)
 {

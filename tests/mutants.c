@@ -73,7 +73,7 @@ uint32_t __real_smb3seal_fold(uint8_t *, size_t, const uint8_t *, size_t);
 uint32_t __wrap_smb3seal_fold(uint8_t *chain, size_t chain_len, const uint8_t *message, size_t message_len)
 {
     if (fault("fold: the last byte is left out") && message_len > 64) message_len--;
-    if (fault("fold: 1,048,576 bytes are refused") && message_len == 1048576) return 23;
+    if (fault("fold: 8,454,144 bytes are refused") && message_len == 8454144) return 23;
     if (fault("fold: a byte behind the message is read")) look(message + message_len);
     return __real_smb3seal_fold(chain, chain_len, message, message_len);
 }

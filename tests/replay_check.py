@@ -1,8 +1,8 @@
 #!/usr/bin/env python3
 """replay_check PROGRAM [TRACES [SEED]]: the program smb3seal-replay beside tests/trace_model.py, on traces that are random, damaged and cut.
 
-Every cut of a small trace, then random ones: records of every kind and direction, at lengths around each limit; bits changed, bytes taken
-out, put in or cut off. Each trace is given as a file or on the standard input, and the lines are compared. The first difference ends it.
+Every cut of a small trace, then random ones, of both editions: records of every kind and direction, at lengths around each limit; bits
+changed, bytes taken out, put in or cut off. Each trace is given as a file or on the standard input, and the lines are compared. The first difference ends it.
 """
 import os
 import random
@@ -58,7 +58,7 @@ def sealed(rng, lab, from_server):
     return bytes(m) or b"\0"
 
 
-def random_record(rng, lab):
+def random_record(rng, lab, edition):
     """A record that can be read, and what it does to the lab."""
     kind = rng.choice((0, 1, 1, 2, 2, 2, 3, 3))
     from_server = rng.random() < 0.5
@@ -72,7 +72,7 @@ def random_record(rng, lab):
         payload = bytes(rng.choice((65535, 65536, 65537, 70000)))
     if len(payload) <= model.HELD:
         lab.step(kind, from_server, payload)
-    return model.record(kind, from_server, payload)
+    return model.record(kind, from_server, payload, edition)
 
 
 def damaged(rng, trace):
@@ -95,16 +95,17 @@ def random_trace(rng):
     if rng.random() < 0.02:
         return rng.randbytes(rng.randrange(40))
     dialect, cipher = rng.choice(DIALECTS), rng.choice(CIPHERS)
-    lab, out = model.Lab(dialect, cipher), model.file_head(dialect, cipher, 1 if rng.random() < 0.97 else rng.randrange(256))
+    lab, edition = model.Lab(dialect, cipher), rng.choice((1, 2))
+    out = model.file_head(dialect, cipher, edition if rng.random() < 0.97 else rng.randrange(256))
     for _ in range(rng.choice((0, 1, 2, 5, 10, 24))):
-        out += random_record(rng, lab)
+        out += random_record(rng, lab, edition)
     return damaged(rng, out) if rng.random() < 0.5 else out
 
 
-def small_trace():
-    record = model.record
-    session = record(3, False, (7).to_bytes(8, "big") + bytes(range(16)))
-    return model.file_head(0x0311, 2) + record(0, False, bytes(64)) + session + record(2, True, b"\xfdSMB" + bytes(50)) + record(1, True, b"x")
+def small_trace(edition):
+    session = (3, False, (7).to_bytes(8, "big") + bytes(range(16)))
+    records = ((0, False, bytes(64)), session, (2, True, b"\xfdSMB" + bytes(50)), (1, True, b"x"))
+    return model.file_head(0x0311, 2, edition) + b"".join(model.record(*r, edition) for r in records)
 
 
 def full_table():
@@ -115,16 +116,21 @@ def full_table():
 
 
 def long_payloads():
-    """Long payloads: whole, then cut off, which prints the stop alone."""
-    whole = model.file_head(0x0311, 1) + model.record(0, True, bytes(1048628))
-    return [whole, whole[:-1], whole[:70000], whole + bytes(3), model.file_head(0x0311, 1) + model.record(2, False, bytes(65537)) + bytes(4)]
+    """Long payloads, up to the longest and one more: whole, then cut off, which prints the stop alone."""
+    for edition, (_, _, longest) in model.EDITIONS.items():
+        head = model.file_head(0x0311, 1, edition)
+        whole = head + model.record(0, True, bytes(longest), edition)
+        yield from (whole, whole[:-1], whole[:70000], whole + bytes(3))
+        yield from (head + model.record(2, False, bytes(n), edition) + bytes(4) for n in (65537, longest + 1))
 
 
 def named_traces():
     head = model.file_head(0x0311, 2)
-    yield from (b"", head[:1], head[:3], head, head + bytes(2), model.file_head(0x0311, 2, 2), model.file_head(0x0311, 2, 0))
-    small = small_trace()
-    yield from (small[:n] for n in range(len(small) + 1))
+    yield from (b"", head[:1], head[:3], head, head + bytes(2), *(model.file_head(0x0311, 2, edition) for edition in range(5)))
+    for small in map(small_trace, model.EDITIONS):
+        yield from (small[:n] for n in range(len(small) + 1))
+        # the other edition's heads
+        yield bytes([3 - small[0]]) + small[1:]
     yield full_table()
     yield from long_payloads()
 

@@ -38,8 +38,11 @@ static size_t read_bytes(const char *text, uint8_t *at, size_t room)
 
 static void print_bytes(const uint8_t *at, size_t n)
 {
-    for (size_t i = 0; i < n; i++) printf("%02x", at[i]);
-    printf("\n");
+    for (size_t i = 0; i < n; i++) {
+        putchar("0123456789abcdef"[at[i] >> 4]);
+        putchar("0123456789abcdef"[at[i] & 15]);
+    }
+    putchar('\n');
 }
 
 static void derive(const char *text)

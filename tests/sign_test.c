@@ -174,9 +174,9 @@ static void lengths(void)
     struct call c = clear_call(SIGN, LIMIT);
     sign_and_verify(&c);
     c.message.len = LIMIT + 1;
-    expect_answer(&c, 3, "verifying 1,048,577 bytes");
+    expect_answer(&c, 3, "verifying 8,454,145 bytes");
     c.function = SIGN;
-    expect_answer(&c, 3, "signing 1,048,577 bytes");
+    expect_answer(&c, 3, "signing 8,454,145 bytes");
 }
 
 /* Lengths of 2^32 and a little: none is taken for the little. No page of the bytes behind the first is used. */

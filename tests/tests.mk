@@ -2,10 +2,10 @@
 # needs is missing.
 
 TEST_HEADERS = $(wildcard tests/*.h) include/smb3seal.h $(BUILD)/smb3_vectors.h
-SHARED = check openssl_aead model call messages generate guard table_model table_call table_generate
+SHARED = check openssl_aead model call messages generate guard table_model table_call table_generate trace_format
 KEY_TESTS = vectors_test numbers_test lengths_test walk_test bits_test random_test guard_test
 TABLE_TESTS = table_calls_test table_numbers_test table_test table_guard_test
-TRACE_TESTS = trace_test
+TRACE_TESTS = trace_test rescue_test
 PIECES_TESTS = fold_pieces_test sign_pieces_test
 LIBRARY_TESTS = $(KEY_TESTS) sign_test $(PIECES_TESTS) $(TABLE_TESTS) $(TRACE_TESTS)
 
@@ -35,7 +35,8 @@ VALGRIND_LISTS = 2000
 
 # Each program once more, with a library that can be made wrong.
 EXPORTS = derive fold fold_response fold_begin fold_piece fold_finish fold_response_finish seal open sign verify sign_begin sign_piece \
-    sign_finish verify_finish table_find table_add table_remove table_seal table_open trace_head trace_record trace_read_head trace_read
+    sign_finish verify_finish table_find table_add table_remove table_seal table_open \
+    trace_head trace_record trace_read_head trace_read trace_rescue
 WRONG = $(patsubst %,$(BUILD)/plain/%.o,mutants sign_mutants fold_pieces_mutants sign_pieces_mutants table_mutants trace_mutants)
 MUTANTS = $(LIBRARY_TESTS:%=$(BUILD)/mutants/%)
 $(MUTANTS): $(BUILD)/mutants/%: $(BUILD)/plain/%.o $(SHARED:%=$(BUILD)/plain/%.o) $(WRONG) $(ARCHIVE)
@@ -45,7 +46,7 @@ $(MUTANTS): $(BUILD)/mutants/%: $(BUILD)/plain/%.o $(SHARED:%=$(BUILD)/plain/%.o
 outside: setup-test
 	@$(MAKE) --silent --no-print-directory NO_SETUP=1 outside-tests
 
-outside-tests: consistency examples packaging rust symbols programs replay valgrind mutants tshark
+outside-tests: consistency examples packaging rust symbols programs replay rescue valgrind mutants tshark
 
 # Pages, lists and vectors agree with each other and with the tree.
 consistency:
@@ -77,6 +78,11 @@ REPLAYED = 20000
 replay: dist/smb3seal-replay
 	@scripts/test-with "the replay beside one in Python" python3-cryptography -- tests/replay_check.py $< $(REPLAYED)
 
+# The program that rescues traces, beside one in Python.
+RESCUED = 20000
+rescue: dist/smb3seal-rescue
+	@scripts/test-with "the rescue beside one in Python" python3-cryptography -- tests/rescue_check.py $< $(RESCUED)
+
 valgrind:
 	@scripts/test-with "the C tests under valgrind" libssl-dev valgrind -- $(AGAIN) run-valgrind
 
@@ -94,7 +100,7 @@ run-mutants: $(MUTANTS)
 	@scripts/mutants $(BUILD)/mutants tests/fold_pieces_mutants.c fold_pieces_test
 	@scripts/mutants $(BUILD)/mutants tests/sign_pieces_mutants.c sign_pieces_test
 	@scripts/mutants $(BUILD)/mutants tests/table_mutants.c table_calls_test table_guard_test table_numbers_test
-	@scripts/mutants $(BUILD)/mutants tests/trace_mutants.c trace_test
+	@scripts/mutants $(BUILD)/mutants tests/trace_mutants.c trace_test rescue_test
 
 tshark:
 	@scripts/test-with "tshark on a capture" libssl-dev tshark -- $(AGAIN) run-tshark
@@ -132,5 +138,5 @@ coverage: setup-test
 	scripts/archive-coverage $(ARCHIVE) $(BUILD)/coverage $(BUILD)/plain/vectors_test $(BUILD)/plain/lengths_test \
 	    "$(BUILD)/plain/random_test 1 $(VALGRIND_CASES)" "$(BUILD)/plain/table_test 1 $(VALGRIND_LISTS)"
 
-.PHONY: outside outside-tests consistency symbols programs replay valgrind mutants tshark run-programs run-valgrind run-mutants run-tshark
+.PHONY: outside outside-tests consistency symbols programs replay rescue valgrind mutants tshark run-programs run-valgrind run-mutants run-tshark
 .PHONY: fuzz samba coverage

@@ -1,4 +1,4 @@
-"""Lab traces a second time, apart from the library: a reader, a writer and the replay, with Python's hashes and the ciphers of
+"""Lab traces a second time, apart from the library: a reader, a writer, the replay and the rescue, with Python's hashes and the ciphers of
 python3-cryptography. Heads are read and written as strings of bits, the most significant first, as the format is put into words.
 """
 import hashlib
@@ -8,8 +8,9 @@ from cryptography.exceptions import InvalidTag
 from cryptography.hazmat.primitives.ciphers.aead import AESCCM, AESGCM
 
 NEGOTIATE, SETUP, SEALED, SESSION = range(4)
-LONGEST, HELD, RECORDS = 1048628, 65536, 16
-LIMIT = 1048576
+EDITIONS = {1: (21, 7, 1048628), 2: (24, 4, 8454196)}  # bits of the length, zero bits, longest payload
+WRITTEN, HELD, RECORDS = 2, 65536, 16
+LIMIT = 8454144
 DIALECTS = (0x0300, 0x0302, 0x0311)
 LABELS_311 = (b"SMBC2SCipherKey\0", b"SMBS2CCipherKey\0")
 CONTEXTS_30 = (b"ServerIn \0", b"ServerOut\0")
@@ -36,16 +37,17 @@ def unpacked(head, widths):
     return out
 
 
-def file_head(dialect, cipher, edition=1):
+def file_head(dialect, cipher, edition=WRITTEN):
     return packed([(edition, 8), (dialect, 16), (cipher, 8)])
 
 
-def record(kind, from_server, payload):
-    return packed([(kind, 3), (int(from_server), 1), (len(payload), 21), (0, 7)]) + payload
+def record(kind, from_server, payload, edition=WRITTEN):
+    width, zeros, _ = EDITIONS[edition]
+    return packed([(kind, 3), (int(from_server), 1), (len(payload), width), (0, zeros)]) + payload
 
 
-def right_length(kind, length):
-    return length == 24 if kind == SESSION else 1 <= length <= LONGEST
+def right_length(kind, length, longest):
+    return length == 24 if kind == SESSION else 1 <= length <= longest
 
 
 def read_head(trace):
@@ -53,19 +55,48 @@ def read_head(trace):
     if len(trace) < 4:
         return None
     edition, dialect, cipher = unpacked(trace[:4], (8, 16, 8))
-    return (dialect, cipher) if edition == 1 else None
+    return (dialect, cipher) if edition in EDITIONS else None
 
 
 def read(trace, at):
-    """Kind, whether it is from the server, and the payload; "end", or None for what cannot be read."""
+    """Of a trace with a good head: kind, whether it is from the server, and the payload; "end", or None for what cannot be read."""
     if at >= len(trace):
         return "end"
     if len(trace) - at < 4:
         return None
-    kind, direction, length, spare = unpacked(trace[at : at + 4], (3, 1, 21, 7))
-    if kind > SESSION or spare or not right_length(kind, length) or at + 4 + length > len(trace):
+    width, zeros, longest = EDITIONS[trace[0]]
+    kind, direction, length, spare = unpacked(trace[at : at + 4], (3, 1, width, zeros))
+    if kind > SESSION or spare or not right_length(kind, length, longest) or at + 4 + length > len(trace):
         return None
     return kind, direction == 1, trace[at + 4 : at + 4 + length]
+
+
+# ---- the rescue
+
+
+def is_found(trace, at):
+    """Whether the reader takes up again here."""
+    record = read(trace, at)
+    return record not in ("end", None) and record[0] != SESSION and record[2][:4] in (b"\xfeSMB", b"\xfdSMB")
+
+
+def rescue(trace):
+    """What comes out, or None, and the lines that are written."""
+    if len(trace) > HELD:
+        return None, "long\n"
+    if read_head(trace) is None:
+        return None, "stop 0\n"
+    out, gaps, at = [trace[:4]], [], 4
+    while at < len(trace):
+        record = read(trace, at)
+        if record is not None:
+            after = at + 4 + len(record[2])
+            out.append(trace[at:after])
+        else:
+            after = next((place for place in range(at + 1, len(trace)) if is_found(trace, place)), len(trace))
+            gaps.append(f"{at} {after - at}\n")
+        at = after
+    return b"".join(out), "".join(gaps)
 
 
 # ---- the replay

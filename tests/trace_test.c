@@ -1,6 +1,6 @@
 /*
- * Lab traces: the reader and the writer from C beside a second one that is written here, on random traces, every head of one byte changed,
- * every room and every cut of a small trace. After a refusal all that was lent is as it was.
+ * Lab traces: the reader and the writer from C beside a second one (trace_format.c), on random traces of both editions, every head of
+ * one byte changed, every room and every cut of a small trace. After a refusal all that was lent is as it was.
  *
  * Usage: trace_test [SEED [CASES]]
  */
@@ -9,67 +9,16 @@
 
 #include "../include/smb3seal.h"
 #include "check.h"
+#include "trace_format.h"
 
-enum { CASES = 100000, HEAD = 4, LONGEST = 1048628 };
-
-/* ---- the format a second time: all the places that a call lends, and what it returns */
-
-struct record {
-    uint32_t number;
-    size_t at, payload, payload_len;
-    uint32_t kind, from_server;
-};
-
-static uint32_t head_at(const uint8_t *b)
-{
-    return (uint32_t)b[0] << 24 | (uint32_t)b[1] << 16 | (uint32_t)b[2] << 8 | b[3];
-}
-
-static int admitted(uint32_t kind, size_t len)
-{
-    return kind == 3 ? len == 24 : kind < 3 && len >= 1 && len <= LONGEST;
-}
-
-static struct record model_read(const uint8_t *trace, size_t n, struct record lent)
-{
-    struct record refused = lent;
-    refused.number = 36;
-    lent.number = 0;
-    if (n < HEAD || trace[0] != 1) return refused;
-    if (lent.at >= n) {
-        lent.payload_len = 0;
-        return lent;
-    }
-    if (n - lent.at < HEAD) return refused;
-    uint32_t head = head_at(trace + lent.at), len = (head >> 7) & 0x1FFFFF;
-    if ((head & 0x7F) != 0 || !admitted(head >> 29, len) || n - lent.at - HEAD < len) return refused;
-    return (struct record){0, lent.at + HEAD + len, lent.at + HEAD, len, head >> 29, (head >> 28) & 1};
-}
-
-static uint32_t model_write(uint32_t kind, uint32_t from_server, const uint8_t *payload, size_t len, uint8_t *room, size_t n, size_t *at)
-{
-    if (!admitted(kind, len) || *at > n || n - *at < HEAD || n - *at - HEAD < len) return 36;
-    uint32_t head = kind << 29 | (uint32_t)(from_server != 0) << 28 | (uint32_t)len << 7;
-    for (int i = 0; i < HEAD; i++) room[*at + i] = (uint8_t)(head >> (24 - 8 * i));
-    memcpy(room + *at + HEAD, payload, len);
-    *at += HEAD + len;
-    return 0;
-}
+enum { CASES = 100000 };
 
 /* ---- one call by both */
 
-static uint8_t *copy_of(const uint8_t *bytes, size_t n)
+static struct trace_record read_both(const uint8_t *trace, size_t n, size_t at)
 {
-    uint8_t *copy = malloc(n > 0 ? n : 1);
-    if (copy == NULL) fail("no memory", n);
-    memcpy(copy, bytes, n);
-    return copy;
-}
-
-static struct record read_both(const uint8_t *trace, size_t n, size_t at)
-{
-    struct record lent = {0, at, (size_t)number(), (size_t)number(), (uint32_t)number(), (uint32_t)number()};
-    struct record expected = model_read(trace, n, lent), got = lent;
+    struct trace_record lent = {0, at, (size_t)number(), (size_t)number(), (uint32_t)number(), (uint32_t)number()};
+    struct trace_record expected = model_trace_read(trace, n, lent), got = lent;
     uint8_t *copy = copy_of(trace, n);
     got.number = smb3seal_trace_read(copy, n, &got.at, &got.kind, &got.from_server, &got.payload, &got.payload_len);
     expect(got.number == expected.number, "trace_read: its number", got.number);
@@ -86,7 +35,7 @@ static void read_head_both(const uint8_t *trace, size_t n)
     uint16_t dialect = (uint16_t)number(), cipher = (uint16_t)number(), lent_dialect = dialect, lent_cipher = cipher;
     uint8_t *copy = copy_of(trace, n);
     uint32_t r = smb3seal_trace_read_head(copy, n, &dialect, &cipher);
-    int good = n >= HEAD && trace[0] == 1;
+    int good = n >= HEAD && known_edition(trace[0]);
     expect(r == (good ? 0u : 36u), "trace_read_head: its number", r);
     expect(dialect == (good ? trace[1] << 8 | trace[2] : lent_dialect), "trace_read_head: the dialect", dialect);
     expect(cipher == (good ? trace[3] : lent_cipher), "trace_read_head: the cipher", cipher);
@@ -97,7 +46,7 @@ static uint32_t write_both(uint32_t kind, uint32_t from_server, const uint8_t *p
 {
     uint8_t *copy = copy_of(room, n), *lent = copy_of(payload, len);
     size_t place = *at;
-    uint32_t expected = model_write(kind, from_server, payload, len, room, n, at);
+    uint32_t expected = model_trace_record(WRITTEN, kind, from_server, payload, len, room, n, at);
     uint32_t r = smb3seal_trace_record(kind, from_server, lent, len, copy, n, &place);
     expect(r == expected, "trace_record: its number", r);
     expect(place == *at, "trace_record: the next place", place);
@@ -111,7 +60,7 @@ static uint32_t write_head_both(uint8_t edition, uint16_t dialect, uint16_t ciph
 {
     uint8_t *copy = copy_of(room, n);
     size_t place = *at;
-    uint32_t expected = edition == 1 && cipher < 256 && n >= HEAD ? 0 : 36;
+    uint32_t expected = edition == WRITTEN && cipher < 256 && n >= HEAD ? 0 : 36;
     if (expected == 0) {
         memcpy(room, (uint8_t[]){edition, (uint8_t)(dialect >> 8), (uint8_t)dialect, (uint8_t)cipher}, HEAD);
         *at = HEAD;
@@ -126,6 +75,14 @@ static uint32_t write_head_both(uint8_t edition, uint16_t dialect, uint16_t ciph
 
 /* ---- cases */
 
+/* A record of edition 2 by both, and of edition 1, which the library does not write, by the one here. */
+static uint32_t write_in(uint8_t edition, uint32_t kind, uint32_t from_server, const uint8_t *payload, size_t len, uint8_t *room, size_t n,
+                         size_t *at)
+{
+    if (edition == WRITTEN) return write_both(kind, from_server, payload, len, room, n, at);
+    return model_trace_record(edition, kind, from_server, payload, len, room, n, at);
+}
+
 /* A list of calls of the writer, refused ones among them; then everything that was accepted is read again. */
 static void random_trace(void)
 {
@@ -134,20 +91,25 @@ static void random_trace(void)
     struct { uint32_t kind; int from_server; size_t len; uint8_t bytes[120]; } kept[RECORDS];
     size_t n = below(ROOM), at = below(ROOM), count = 0;
     fill(room, sizeof room);
-    uint8_t edition = chance(90) ? 1 : (uint8_t)number();
-    if (write_head_both(edition, (uint16_t)number(), (uint16_t)(chance(90) ? below(256) : number()), room, n, &at) != 0) return;
+    uint8_t edition = chance(95) ? (uint8_t)(1 + below(2)) : (uint8_t)number();
+    uint32_t refused = write_head_both(edition, (uint16_t)number(), (uint16_t)(chance(90) ? below(256) : number()), room, n, &at);
+    if (refused != 0 && (edition != 1 || n < HEAD)) return;
+    if (edition == 1) {
+        room[0] = 1;
+        at = HEAD;
+    }
     for (int i = 0; i < RECORDS; i++) {
         uint32_t kind = chance(95) ? (uint32_t)below(4) : (uint32_t)number(), from_server = chance(50) ? 0 : (uint32_t)number();
         size_t len = kind == 3 && chance(80) ? 24 : below(sizeof payload);
         fill(payload, sizeof payload);
-        if (write_both(kind, from_server, payload, len, room, n, &at) != 0) continue;
+        if (write_in(edition, kind, from_server, payload, len, room, n, &at) != 0) continue;
         kept[count].kind = kind;
         kept[count].from_server = from_server != 0;
         kept[count].len = len;
         memcpy(kept[count++].bytes, payload, len);
     }
     read_head_both(room, at);
-    struct record r = {0, HEAD, 0, 0, 0, 0};
+    struct trace_record r = {0, HEAD, 0, 0, 0, 0};
     for (size_t i = 0; i < count; i++) {
         r = read_both(room, at, r.at);
         expect(r.number == 0 && r.kind == kept[i].kind && (int)r.from_server == kept[i].from_server, "what was written is read", i);
@@ -162,13 +124,13 @@ static void random_trace(void)
 }
 
 /* Every cut of a small trace, at every place, and every bit of its head and of a record's head. */
-static void small_trace(void)
+static void small_trace(uint8_t edition)
 {
-    uint8_t trace[64] = {1, 3, 17, 2}, payload[24] = {7};
+    uint8_t trace[64] = {edition, 3, 17, 2}, payload[24] = {7};
     size_t at = HEAD, first = 0;
-    write_both(0, 0, payload, 5, trace, sizeof trace, &at);
+    write_in(edition, 0, 0, payload, 5, trace, sizeof trace, &at);
     first = at;
-    write_both(3, 1, payload, 24, trace, sizeof trace, &at);
+    write_in(edition, 3, 1, payload, 24, trace, sizeof trace, &at);
     for (size_t n = 0; n <= at; n++)
         for (size_t place = 0; place <= at + 5; place++) read_both(trace, n, place);
     for (size_t n = 0; n <= HEAD; n++) read_head_both(trace, n);
@@ -180,6 +142,11 @@ static void small_trace(void)
         }
     read_both(trace, at, SIZE_MAX);
     read_both(trace, at, SIZE_MAX - 3);
+    for (int other = 0; other < 256; other++) {
+        trace[0] = (uint8_t)other;
+        read_head_both(trace, at);
+        read_both(trace, at, HEAD);
+    }
 }
 
 /* Both sides of each limit on lengths and rooms. */
@@ -192,12 +159,16 @@ static void limits(void)
                 size_t at = 10;
                 write_both(kind, 1, payload, len, room, at + left, &at);
             }
-    for (size_t len = LONGEST - 1; len <= LONGEST + 1; len++) {
+    for (uint8_t edition = 1; edition <= 2; edition++)
+        for (size_t len = longest_payload(edition); len <= longest_payload(edition) + 1; len++) {
+            memcpy(room, (uint8_t[]){edition, 3, 17, 1}, HEAD);
+            put_head(edition, 2, 1, len, room + HEAD);
+            read_both(room, HEAD + HEAD + len, HEAD);
+            read_both(room, HEAD + HEAD + len - 1, HEAD);
+        }
+    for (size_t len = LONGEST; len <= LONGEST + 1; len++) {
         size_t at = HEAD;
-        memcpy(room, (uint8_t[]){1, 3, 17, 1}, HEAD);
         write_both(2, 1, payload, len, room, sizeof room, &at);
-        read_both(room, sizeof room, HEAD);
-        read_both(room, HEAD + HEAD + LONGEST - 1, HEAD);
     }
     size_t at = SIZE_MAX;
     write_both(0, 0, payload, 1, room, 100, &at);
@@ -210,7 +181,8 @@ int main(int argc, char **argv)
     unsigned long cases = argc > 2 ? strtoul(argv[2], NULL, 0) : CASES;
     begin(argc, argv);
     begin_case(0);
-    small_trace();
+    small_trace(1);
+    small_trace(2);
     limits();
     for (unsigned long i = 1; i <= cases; i++) {
         begin_case(i);

@@ -152,6 +152,16 @@ extern "C" {
         payload: *mut usize,
         payload_len: *mut usize,
     ) -> u32;
+    pub fn smb3seal_trace_rescue(
+        trace: *const u8,
+        trace_len: usize,
+        rescued: *mut u8,
+        rescued_len: usize,
+        gaps: *mut u64,
+        gaps_len: usize,
+        written: *mut usize,
+        count: *mut usize,
+    ) -> u32;
 
     pub fn smb3seal_table_find(table: *const Session, table_len: usize, session_id: u64) -> usize;
     pub fn smb3seal_table_add(

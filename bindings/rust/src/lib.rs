@@ -60,14 +60,14 @@ pub use refusal::Refusal;
 pub use sealer::Sealer;
 pub use signing::{sign, verify, SignedPieces};
 pub use table::{Login, Opened, Session, Sessions, Table};
-pub use trace::{TraceKind, TraceReader, TraceRecord, TraceWriter};
+pub use trace::{rescue_trace, Rescued, TraceKind, TraceReader, TraceRecord, TraceWriter};
 
 use std::fmt;
 
 /// Bytes of the transform header, before every sealed message.
 pub const HEADER_BYTES: usize = 52;
 /// The most bytes behind the transform header, and of a message that is folded, signed or verified.
-pub const LONGEST_MESSAGE: usize = 1_048_576;
+pub const LONGEST_MESSAGE: usize = 8_454_144;
 
 /// A cipher or signing key.
 pub type Key = [u8; 16];

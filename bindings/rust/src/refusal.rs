@@ -30,7 +30,7 @@ macro_rules! refusals {
 refusals! {
     NOT_ENCRYPTING = 1, "this connection does not encrypt: dialect, role, setting or cipher";
     TOO_SHORT = 2, "the message is not longer than a transform header";
-    TOO_LONG = 3, "the message is longer than 1,048,576 bytes, those behind its transform header if it has one";
+    TOO_LONG = 3, "the message is longer than 8,454,144 bytes, those behind its transform header if it has one";
     NOT_TRANSFORM = 4, "the message does not begin with a transform header";
     BAD_FLAGS = 5, "the transform header's Flags are not 0x0001";
     OTHER_SESSION = 6, "the transform header names another session, or the table has no session of this id";
@@ -50,7 +50,7 @@ refusals! {
     ID_ZERO = 20, "the id of the session to add is 0";
     ID_TAKEN = 21, "a session with this id is in the table";
     TABLE_FULL = 22, "the session table is full";
-    FOLD_LENGTH = 23, "a message to fold has under 64 or over 1,048,576 bytes";
+    FOLD_LENGTH = 23, "a message to fold has under 64 or over 8,454,144 bytes";
     NOT_SIGNED = 24, "the message is not signed";
     BAD_SIGNATURE = 25, "the signature differs";
     DIRTY_NONCE = 29, "the nonce does not end in zeros";

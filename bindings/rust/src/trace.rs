@@ -1,8 +1,8 @@
 //! Lab traces: what passed on a connection, recorded and read.
 use crate::{ffi, Cipher, Dialect, Key, Refusal};
 
-/// The edition of the format that is written.
-const EDITION: u8 = 1;
+/// The edition of the format that is written; edition 1 is read too.
+const EDITION: u8 = 2;
 /// Bytes of a trace's head, behind which is the first record.
 const HEAD_BYTES: usize = 4;
 
@@ -178,4 +178,45 @@ impl<'a> Iterator for TraceReader<'a> {
             })
         })
     }
+}
+
+/// What a rescue made of a damaged trace.
+#[derive(Clone, Debug, PartialEq, Eq)]
+pub struct Rescued {
+    /// The head and the good records, which read whole.
+    pub trace: Vec<u8>,
+    /// What was dropped, in order: the place of each gap in the damaged trace, and its length.
+    pub gaps: Vec<(u64, u64)>,
+}
+
+/// Copies what is good of a damaged trace, of any length. Refuses with [`Refusal::UNREADABLE`] one whose head cannot be read.
+pub fn rescue_trace(trace: &[u8]) -> Result<Rescued, Refusal> {
+    let mut rescued = vec![0; trace.len()];
+    // always enough, by the header
+    let mut numbers = vec![0; 2 * (trace.len() / 9 + 1)];
+    let (mut written, mut count) = (0, 0);
+    // SAFETY: the pointers come from references that live through the call, with their own lengths; the mutable ones are apart.
+    let number = unsafe {
+        ffi::smb3seal_trace_rescue(
+            trace.as_ptr(),
+            trace.len(),
+            rescued.as_mut_ptr(),
+            rescued.len(),
+            numbers.as_mut_ptr(),
+            numbers.len(),
+            &mut written,
+            &mut count,
+        )
+    };
+    Refusal::check(number)?;
+    rescued.truncate(written);
+    let gaps = numbers
+        .chunks(2)
+        .take(count)
+        .map(|gap| (gap[0], gap[1]))
+        .collect();
+    Ok(Rescued {
+        trace: rescued,
+        gaps,
+    })
 }

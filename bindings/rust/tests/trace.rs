@@ -1,5 +1,7 @@
 //! Lab traces: what is written is read, and what cannot be read or held is refused.
-use smb3seal::{Cipher, Dialect, Refusal, TraceKind, TraceReader, TraceRecord, TraceWriter};
+use smb3seal::{
+    rescue_trace, Cipher, Dialect, Refusal, TraceKind, TraceReader, TraceRecord, TraceWriter,
+};
 
 fn request(payload: &[u8]) -> TraceRecord<'_> {
     TraceRecord {
@@ -57,9 +59,37 @@ fn refused_writes_change_nothing() {
     for record in [request(b""), request(&[1; 13]), wrong] {
         assert_eq!(writer.record(record), Err(Refusal::UNREADABLE));
     }
-    assert_eq!(writer.bytes(), [1, 3, 17, 2]);
+    assert_eq!(writer.bytes(), [2, 3, 17, 2]);
     writer.record(request(&[1; 12])).unwrap();
-    assert_eq!(room[4..8], [0x20, 0, 6, 0]);
+    assert_eq!(room[4..8], [0x20, 0, 0, 0xC0]);
+}
+
+#[test]
+fn edition_1_is_read() {
+    let trace = [1, 3, 17, 2, 0x20, 0, 1, 0, b'a', b'b'];
+    let mut reader = TraceReader::new(&trace).unwrap();
+    assert_eq!(reader.next(), Some(Ok(request(b"ab"))));
+    assert_eq!(reader.next(), None);
+}
+
+#[test]
+fn a_damaged_trace_is_rescued() {
+    let mut room = [0; 100];
+    let mut writer = begin(&mut room).unwrap();
+    writer.record(request(b"\xFESMB, first")).unwrap();
+    writer.record(request(b"\xFESMB, second")).unwrap();
+    let clean = writer.bytes().to_vec();
+    assert_eq!(rescue_trace(&clean).unwrap().trace, clean);
+    assert!(rescue_trace(&clean).unwrap().gaps.is_empty());
+
+    let mut damaged = clean.clone();
+    damaged.splice(4..4, [1, 2, 3]);
+    damaged.push(9);
+    let rescued = rescue_trace(&damaged).unwrap();
+    assert_eq!(rescued.trace, clean);
+    assert_eq!(rescued.gaps, [(4, 3), (damaged.len() as u64 - 1, 1)]);
+    assert_eq!(rescue_trace(&damaged[1..]), Err(Refusal::UNREADABLE));
+    assert_eq!(rescue_trace(&[]), Err(Refusal::UNREADABLE));
 }
 
 #[test]
@@ -67,5 +97,5 @@ fn bad_heads() {
     assert!(begin(&mut [0; 3]).is_err());
     assert!(TraceWriter::new(&mut [0; 4], Dialect::SMB_3_1_1, Cipher(256)).is_err());
     assert!(TraceReader::new(&[1, 3, 17]).is_err());
-    assert!(TraceReader::new(&[2, 3, 17, 2]).is_err());
+    assert!(TraceReader::new(&[3, 3, 17, 2]).is_err());
 }

@@ -24,7 +24,7 @@ pub struct Connection {
 pub fn longest_message() -> usize
     ensures { λ r. ⌜ r ≡ longestMessage ⌝ }
 {
-    1048576
+    8454144
 }
 
 // A message of this length does not pass the limit with so many bytes more: 3 or 23 is not given to a piece.

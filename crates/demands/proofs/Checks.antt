@@ -15,7 +15,7 @@ use Rattle.octets.specs.Same.{sameBytes}
 use Rattle.octets.proofs.SameLaws.{same-self, same-equal}
 use Rattle.protocol.specs.Bytes.{Bytes}
 use Rattle.protocol.specs.Answer.{Test}
-use Rattle.protocol.specs.Connection.{usesGcm, other, Connection, knownDialect, encrypts, cipherUsed}
+use Rattle.protocol.specs.Connection.{usesGcm, other, Connection, knownDialect, encrypts, cipherUsed, longestMessage}
 use Rattle.protocol.specs.TransformHeader.{nonceEnd, headerOf, protocolId, inner, originalMessageSize, flagsOf, sessionIdOf}
 use Rattle.protocol.specs.SessionTable.{Session, openingKey}
 use Rattle.protocol.specs.Transform.{Primitives, plaintextUnder}
@@ -120,19 +120,19 @@ module _ (c : Connection) (m : Bytes) where
   header-passes h =
       past-line _ (ap not (says-encrypts c (h .encrypts)))
       (past-line _ (lt-leb (length m) 52 (h .long))
-      (past-line _ (le-ltb 1048576 (length (inner m)) (h .short))
+      (past-line _ (le-ltb longestMessage (length (inner m)) (h .short))
       (past-line _ (ap not (ap (λ (x : Bytes). sameBytes x protocolId) (h .begins) ∙ same-self protocolId))
       (past-line _ (ap not (eq-eqb (flagsOf m) 1 (h .flags)))
       (past-line _ (guarded (usesGcm c) (eqb (nonceEnd m) 0) (λ g. eq-eqb (nonceEnd m) 0 (h .clean-nonce (eqb-true (cipherUsed c) 2 g)))) no-line)))))
 
-  header-says : not (encrypts c) ≡ false → leb (length m) 52 ≡ false → ltb 1048576 (length (inner m)) ≡ false
+  header-says : not (encrypts c) ≡ false → leb (length m) 52 ≡ false → ltb longestMessage (length (inner m)) ≡ false
       → not (sameBytes (take 4 m) protocolId) ≡ false → not (eqb (flagsOf m) 1) ≡ false
       → (usesGcm c && not (eqb (nonceEnd m) 0)) ≡ false → HeaderChecks c m
   header-says at1 at2 at3 at4 at5 at29 =
       record {
         encrypts = encrypts-says c (not-false (encrypts c) at1);
         long = leb-false (length m) 52 at2;
-        short = ltb-false 1048576 (length (inner m)) at3;
+        short = ltb-false longestMessage (length (inner m)) at3;
         begins = same-equal (take 4 m) protocolId (not-false (sameBytes (take 4 m) protocolId) at4);
         flags = eqb-true (flagsOf m) 1 (not-false (eqb (flagsOf m) 1) at5);
         clean-nonce = λ g. eqb-true (nonceEnd m) 0 (guards (usesGcm c) (eqb (nonceEnd m) 0) at29 (eq-eqb (cipherUsed c) 2 g));

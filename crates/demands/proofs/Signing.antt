@@ -17,6 +17,7 @@ use Rattle.octets.proofs.SameLaws.{same-self, same-equal}
 use Rattle.cmac.specs.Cmac as rfc4493
 use Rattle.protocol.specs.Bytes.{Bytes, numberAt}
 use Rattle.protocol.specs.Answer.{done}
+use Rattle.protocol.specs.Connection.{longestMessage}
 use Rattle.protocol.specs.Ciphers.{aes128}
 use Rattle.protocol.specs.InnerHeader.{isInnerHeader}
 use Rattle.protocol.specs.Signing.{isSigned, withSignedFlag, withSignature, signatureUnder, signedUnder}
@@ -42,16 +43,16 @@ module _ (key m : Bytes) where
   sign-passes : SignChecks key m → None (signTests key m)
   sign-passes h =
       past-line _ (ap not (eq-eqb (length key) 16 (h .key-fits)))
-      (past-line _ (le-ltb 1048576 (length m) (h .short))
+      (past-line _ (le-ltb longestMessage (length m) (h .short))
       (past-line _ (le-ltb (length m) 64 (h .long))
       (past-line _ (ap not (ap (λ (x : Bytes). sameBytes x magic) (h .begins) ∙ same-self magic)) no-line)))
 
-  checks-of : not (eqb (length key) 16) ≡ false → ltb 1048576 (length m) ≡ false → ltb (length m) 64 ≡ false → not (isInnerHeader m 0) ≡ false
+  checks-of : not (eqb (length key) 16) ≡ false → ltb longestMessage (length m) ≡ false → ltb (length m) 64 ≡ false → not (isInnerHeader m 0) ≡ false
       → SignChecks key m
   checks-of at40 at3 at11 at12 =
       record {
         key-fits = eqb-true (length key) 16 (not-false (eqb (length key) 16) at40);
-        short = ltb-false 1048576 (length m) at3;
+        short = ltb-false longestMessage (length m) at3;
         long = ltb-false (length m) 64 at11;
         begins = same-equal (take 4 m) magic (not-false (isInnerHeader m 0) at12);
       }

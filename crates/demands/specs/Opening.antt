@@ -8,7 +8,7 @@ use mathlib.Core.List.{[], _∷_}
 use Prim.Native.Nat.{ℕ, _≤_, _<_}
 use lib.ListN.{length, take}
 use Rattle.protocol.specs.Bytes.{Bytes}
-use Rattle.protocol.specs.Connection.{other, Connection, cipherUsed}
+use Rattle.protocol.specs.Connection.{other, Connection, cipherUsed, longestMessage}
 use Rattle.protocol.specs.TransformHeader.{nonceEnd, inner, signatureOf, nonceField, authenticatedOf, originalMessageSize, flagsOf, sessionIdOf}
 use Rattle.protocol.specs.SessionTable.{Session, openingKey}
 use Rattle.protocol.specs.Calls.{sentBy}
@@ -28,7 +28,7 @@ pub record HeaderChecks (c : Connection) (m : Bytes) : Type 0 where
   -- not 2
   pub long : 52 < length m
   -- not 3
-  pub short : length (inner m) ≤ 1048576
+  pub short : length (inner m) ≤ longestMessage
   -- not 4
   pub begins : take 4 m ≡ 0xFD ∷ 0x53 ∷ 0x4D ∷ 0x42 ∷ []
   -- not 5

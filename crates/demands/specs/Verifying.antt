@@ -8,13 +8,14 @@ use lib.ListN.{length, take, drop, replicate}
 use Rattle.octets.specs.Numbers.{bytesAt}
 use Rattle.cmac.specs.Cmac.{cmac}
 use Rattle.protocol.specs.Bytes.{Bytes, numberAt}
+use Rattle.protocol.specs.Connection.{longestMessage}
 use Rattle.protocol.specs.Ciphers.{aes128}
 
 pub record SignChecks (key m : Bytes) : Type 0 where
   -- not 40
   pub key-fits : length key ≡ 16
   -- not 3
-  pub short : length m ≤ 1048576
+  pub short : length m ≤ longestMessage
   -- not 11
   pub long : 64 ≤ length m
   -- not 12

@@ -3,7 +3,7 @@
 use mathlib.Core.Path.{_≡_, refl}
 use mathlib.Core.Bool.{true}
 use mathlib.Core.List.{_++_}
-use Prim.Native.Nat.{ℕ, _≤_, _<_}
+use Prim.Native.Nat.{ℕ, _+_, _≤_, _<_}
 use native.Mathlib.Omega.{arith}
 use borrow.Author.Tests.{not-false, eqb-true, leb-false, ltb-false}
 use lib.Dec.{eqb}
@@ -13,7 +13,7 @@ use Rattle.octets.specs.Numbers.{bytesAt}
 use Rattle.protocol.specs.Bytes.{Bytes}
 use Rattle.protocol.specs.Answer.{firstOf}
 use Rattle.protocol.specs.TransformHeader.{inner}
-use Rattle.protocol.specs.Connection.{Connection, encrypts}
+use Rattle.protocol.specs.Connection.{Connection, encrypts, longestMessage}
 use Rattle.protocol.specs.Calls.{keyTests, messageTests}
 use Rattle.protocol.proofs.Judging.{NoneApplies, line, passes}
 
@@ -21,7 +21,7 @@ pub record First (c : Connection) (key m : Bytes) : Type 0 where
   pub key-fits : length key ≡ 16
   pub on : encrypts c ≡ true
   pub long : 52 < length m
-  pub short : length m ≤ 1048628
+  pub short : length m ≤ 52 + longestMessage
   pub none : NoneApplies (keyTests key ++ messageTests c m)
 
 module _ (c : Connection) (key m : Bytes) where
@@ -29,7 +29,7 @@ module _ (c : Connection) (key m : Bytes) where
   first-passed n e z =
       let h = passes (keyTests key ++ messageTests c m) n refl e z in
       let l = length-drop 52 m in
-      let s = ltb-false 1048576 (length (inner m)) (line (keyTests key ++ messageTests c m) h 3) in
+      let s = ltb-false longestMessage (length (inner m)) (line (keyTests key ++ messageTests c m) h 3) in
       record {
         key-fits = eqb-true (length key) 16 (not-false (eqb (length key) 16) (line (keyTests key ++ messageTests c m) h 40));
         on = not-false (encrypts c) (line (keyTests key ++ messageTests c m) h 1);

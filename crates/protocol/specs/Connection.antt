@@ -42,9 +42,9 @@ cipherUsed c = cond (eqb (c .dialect) 0x0311) (c .cipher) 1
 abbrev pub usesGcm : Connection → Bool
 usesGcm c = eqb (cipherUsed c) 2
 
--- numbers 3 and 23: "1,048,576 bytes"
+-- numbers 3 and 23: "Raise the limit in 3 and 23 to 8,454,144 bytes"
 abbrev pub longestMessage : ℕ
-longestMessage = 1048576
+longestMessage = 8454144
 
 -- number 17: 2^64 - 1
 abbrev pub lastCounter : ℕ

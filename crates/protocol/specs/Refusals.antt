@@ -26,7 +26,7 @@ notEncrypting c = refuse 1 when not (encrypts c)
 abbrev pub tooShort : Bytes → Test
 tooShort m = refuse 2 when leb (length m) 52
 
--- "more than 1,048,576 bytes after the transform header", which are p; signing and verifying: "over the message's length", all of it
+-- "more than 8,454,144 bytes after the transform header", which are p; signing and verifying: "over the message's length", all of it
 abbrev pub tooLong : Bytes → Test
 tooLong p = refuse 3 when ltb longestMessage (length p)
 
@@ -115,7 +115,7 @@ idTaken taken = refuse 21 when taken
 abbrev pub tableFull : Bool → Test
 tableFull room = refuse 22 when not room
 
--- "folding: message under 64 or over 1,048,576 bytes"
+-- "folding: message under 64 or over 8,454,144 bytes"
 abbrev pub foldLength : Bytes → Test
 foldLength m = refuse 23 when not (admitted m)
 

@@ -2,11 +2,14 @@
 -- Assumes nothing.
 use mathlib.Core.Path.{_≡_}
 use mathlib.Core.Bool.{Bool}
+use mathlib.Core.List.{List}
 use Prim.Native.Nat.{ℕ}
 use lib.ListN.{length}
 use Rattle.trace.specs.Format.{Bytes, FileReading, Reading, readingNumber}
 use Rattle.trace.specs.Answers.{writeAnswer, roomAfter, writtenNumber, placeBehind, fileNumber, dialectTo, cipherTo}
 use Rattle.trace.specs.Answers.{kindTo, fromServerTo, payloadTo, lengthTo, nextTo}
+use Rattle.trace_rescue.specs.Rescue.{roomy, rescuedFile, gapsOf, rescueAnswer, rescueNumber, writtenTo, gapsTo}
+use Rattle.trace_rescue.specs.Answers.{placeAfter}
 
 -- bytes b, that are writable or not, for place p of the room
 pub record WritesTrace (ok : Bool) (b room : Bytes) (p n : ℕ) (room′ : Bytes) (at at′ : ℕ) : Type 0 where
@@ -26,3 +29,11 @@ pub record ReadsRecord (r : Reading) (n at at′ kind kind′ from from′ paylo
   pub its-direction : from′ ≡ fromServerTo r from
   pub its-payload : payload′ ≡ payloadTo r payload
   pub its-length : len′ ≡ lengthTo r len
+
+-- of the trace f
+pub record RescuesTrace (f : Bytes) (n : ℕ) (room room′ : Bytes) (gaps gaps′ : List ℕ) (written written′ count count′ : ℕ) : Type 0 where
+  pub number : n ≡ rescueNumber (rescueAnswer f (length room) (length gaps))
+  pub bytes : room′ ≡ placeAfter (roomy f (length room) (length gaps)) (rescuedFile f) room
+  pub listed : gaps′ ≡ placeAfter (roomy f (length room) (length gaps)) (gapsOf f) gaps
+  pub its-size : written′ ≡ writtenTo (rescueAnswer f (length room) (length gaps)) written
+  pub its-count : count′ ≡ gapsTo (rescueAnswer f (length room) (length gaps)) count

@@ -3,7 +3,7 @@ ghost use Rattle.trace.specs.Format.{readFileHead, readIn, editionOf};
 ghost use Rattle.trace.specs.Records.{fileHeadBytes, headWritable, recordBytes, writable, writtenEdition};
 ghost use Rattle.trace.specs.Answers.{recordWith};
 ghost use Rattle.connection.specs.Reading.{flag};
-ghost use Rattle.smb3seal.specs.Traces.{WritesTrace, ReadsHead, ReadsRecord};
+ghost use Rattle.smb3seal.specs.Traces.{WritesTrace, ReadsHead, ReadsRecord, RescuesTrace};
 
 // Writes the head of a trace at the start of the room.
 #[no_mangle]
@@ -67,4 +67,21 @@ pub extern "C" fn smb3seal_trace_read(
     *payload = trace::payload_to(read, *payload);
     *payload_len = trace::length_to(read, *payload_len);
     trace::read_number(read)
+}
+
+// Copies what is good of a damaged trace, and lists its gaps.
+#[no_mangle]
+pub extern "C" fn smb3seal_trace_rescue(
+    trace: &[u8],
+    rescued: &mut [u8],
+    gaps: &mut [u64],
+    written: &mut usize,
+    count: &mut usize,
+) -> u32
+    ensures { λ r. ⌜ RescuesTrace (now (trace .entry)) r (now (rescued .entry)) (now (rescued .exit)) (now (gaps .entry)) (now (gaps .exit)) (now (written .entry)) (now (written .exit)) (now (count .entry)) (now (count .exit)) ⌝ }
+{
+    let done = trace_rescue::rescue(trace, rescued, gaps);
+    *written = trace_rescue::written_to(done, *written);
+    *count = trace_rescue::gaps_to(done, *count);
+    trace_rescue::rescue_number(done)
 }

@@ -22,8 +22,6 @@ fn run_smb(line: &[u8]) {
         smb::seal(line, true);
     } else if test_lines::is(line, b"seal-number ") {
         smb::seal(line, false);
-    } else if test_lines::is(line, b"seal-length ") {
-        smb::seal_length(line);
     } else if test_lines::is(line, b"sign ") {
         smb::sign(line);
     } else if test_lines::is(line, b"verify ") {

@@ -1,6 +1,4 @@
 // The library's functions. Numbers are byte strings with the highest byte first.
-ghost use Prim.Native.Nat.{_≤_};
-ghost use lib.ListN.{length};
 
 fn low_16(n: u64) -> u16 {
     (n % 65536) as u16
@@ -152,49 +150,6 @@ pub fn seal(line: &[u8], whole: bool) {
     let m = test_lines::bytes(line, counter.next, &mut message);
     let len = m.len;
     seal_message(l, counter.value, whole, &mut message[..len]);
-}
-
-// Puts a plain header of session 5 behind the room for a transform header, seals, and shows the number.
-fn seal_plain(message: &mut [u8])
-    requires { ⌜ 116 ≤ length (now message) ⌝ }
-{
-    runs::copy(message, 52, b"\xFESMB");
-    runs::copy(message, 92, b"\x05");
-    let key = [0u8; 16];
-    let mut counter: u64 = 0;
-    let mut headers: u64 = 0;
-    let r = smb3seal::smb3seal_seal(
-        0,
-        0x0311,
-        1,
-        2,
-        &key,
-        5,
-        &mut counter,
-        message,
-        &mut headers,
-    );
-    test_lines::show_decimal(r as u64);
-    test_lines::end_line();
-}
-
-fn zeros() -> [u8; 1048640] {
-    [0u8; 1048640]
-}
-
-// seal-length LENGTH: the number for an inner message of so many bytes.
-pub fn seal_length(line: &[u8]) {
-    let n = test_lines::read_number(line, test_lines::after_space(line, 0));
-    let len = n.value;
-    let mut message = zeros();
-    if len < 64 {
-        return;
-    }
-    if 1048588 < len {
-        return;
-    }
-    let end = (len as usize) + 52;
-    seal_plain(&mut message[..end]);
 }
 
 fn sign_message(key: &[u8], message: &mut [u8]) {

@@ -9,27 +9,27 @@ use lib.Dec.{leb, ltb, eqb}
 use lib.ListN.{length, drop, length-drop}
 use Rattle.octets.proofs.BoolLaws.{and-true}
 use Rattle.trace.specs.Format.{Bytes, Edition, editionOf, known, headIn, editionIn, dialectIn, cipherIn, goodFileHead, FileReading, fileHead}
-use Rattle.trace.specs.Format.{badFileHead, readFileHead, kindIn, fromServerIn, lengthIn, admitted, goodHead, head, badHead, readHead, sizeIn, readable}
-use Rattle.trace.specs.Format.{Reading, found, end, unreadable, readAt, afterHead, readIn}
+use Rattle.trace.specs.Format.{badFileHead, readFileHeadBy, readFileHead, kindIn, fromServerIn, lengthIn, admitted, goodHead, head, badHead, readHead, sizeIn, readable}
+use Rattle.trace.specs.Format.{Reading, found, end, unreadable, readAt, afterHead, readInBy, readIn}
 
 -- ---- the file head
 
 pub file-short : (f : Bytes) → length f < 4 → badFileHead ≡ readFileHead f
-unfolding readFileHead goodFileHead
+unfolding readFileHeadBy goodFileHead
 file-short f h = rw (lt-leb 4 (length f) h)
 
 module _ (f : Bytes) (long : 4 ≤ length f) (h : ℕ) (is : h ≡ headIn f) where
-  file-known : (b : Bool) → known (editionIn h) ≡ b → goodFileHead f ≡ b
+  file-known : (b : Bool) → known (editionIn h) ≡ b → goodFileHead editionOf f ≡ b
   unfolding goodFileHead
   file-known b e = rw (le-leb 4 (length f) long) (ap (λ (i : ℕ). known (editionIn i)) (sym is) ∙ e)
 
   pub file-unknown : (longest : ℕ) → longest ≡ editionOf (editionIn h) .longest → longest ≡ 0 → badFileHead ≡ readFileHead f
-  unfolding readFileHead
+  unfolding readFileHeadBy
   file-unknown l e z = rw (file-known false (ap (ltb 0) (sym e ∙ z)))
 
   pub file-good : (longest : ℕ) → longest ≡ editionOf (editionIn h) .longest → (longest ≡ 0 → ⊥)
       → fileHead (editionIn h) (dialectIn h) (cipherIn h) ≡ readFileHead f
-  unfolding readFileHead
+  unfolding readFileHeadBy
   file-good l e n =
       rw (file-known true (ap (ltb 0) (sym e) ∙ lt-ltb 0 l (omega arith))) (ap (λ (i : ℕ). fileHead (editionIn i) (dialectIn i) (cipherIn i)) is)
 
@@ -134,6 +134,9 @@ chosen false false k′ q′ n′ r′ k q n r d′ d e = absurd (let z : _≡_ 
 
 -- its payload is n bytes from q on, inside the file, of a length that its kind admits; the next record begins at r
 pub record Was (e : Edition) (f : Bytes) (p k q n r : ℕ) : Type 0 where
+  pub is-readable : readable e (drop p f) ≡ true
+  pub kind : kindIn (headIn (drop p f)) ≡ k
+  pub size : lengthIn e (headIn (drop p f)) ≡ n
   pub admits : admitted e k n ≡ true
   pub from : q ≡ p + 4
   pub next : r ≡ p + 4 + n
@@ -154,7 +157,15 @@ was e f p k d q n r t =
     let l = length-drop p f in
     let z = c .3 in
     let y = c .4 in
-    record { admits = ap₂ (admitted e) (sym (c .1)) (sym (c .3)) ∙ good-admits e s (g .0); from = sym (c .2); next = omega arith; inside = omega arith }
+    record {
+      is-readable = c .0;
+      kind = c .1;
+      size = c .3;
+      admits = ap₂ (admitted e) (sym (c .1)) (sym (c .3)) ∙ good-admits e s (g .0);
+      from = sym (c .2);
+      next = omega arith;
+      inside = omega arith;
+    }
 
 not-end-of : (b : Bool) (x : Reading) → (end ≡ x → ⊥) → end ≡ cond b x unreadable → ⊥
 not-end-of true x n e = n e
@@ -185,9 +196,9 @@ admitted-24 e k n t h =
 
 module _ (f : Bytes) (p : ℕ) where
   pub in-bad : badFileHead ≡ readFileHead f → unreadable ≡ readIn f p
-  unfolding readIn
-  in-bad t = ap (λ (h : FileReading). afterHead h f p) t
+  unfolding readInBy
+  in-bad t = ap (λ (h : FileReading). afterHead editionOf h f p) t
 
   pub in-good : (e d c : ℕ) → fileHead e d c ≡ readFileHead f → (r : Reading) → r ≡ readAt (editionOf e) f p → r ≡ readIn f p
-  unfolding readIn
-  in-good e d c t r q = q ∙ ap (λ (h : FileReading). afterHead h f p) t
+  unfolding readInBy
+  in-good e d c t r q = q ∙ ap (λ (h : FileReading). afterHead editionOf h f p) t

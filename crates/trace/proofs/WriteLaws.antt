@@ -6,15 +6,15 @@ use mathlib.Core.List.{_++_}
 use Prim.Native.Nat.{ℕ, _+_, _*_, _<_, _≤_}
 use native.Mathlib.Nat.{mul-le-mul-right}
 use native.Mathlib.Omega.{arith}
-use borrow.Author.Tests.{le-leb, lt-leb, leb-true, leb-false, lt-ltb, le-ltb, not-true, not-false}
-use lib.Dec.{leb, ltb}
+use borrow.Author.Tests.{le-leb, lt-leb, leb-true, leb-false, lt-ltb, le-ltb, eq-eqb, ne-eqb, not-true, not-false}
+use lib.Dec.{leb, ltb, eqb}
 use lib.ListN.{length, take, drop, length-append}
 use lib.Seq.{paste, take-at, drop-at, take-length}
 use Rattle.octets.proofs.BoolLaws.{and-true, both}
 use Rattle.octets.proofs.Paste.{paste-more}
 use Rattle.octets.proofs.NumberLaws.{length-toBigEndian}
-use Rattle.trace.specs.Format.{Bytes, Edition, editionOf, known, admitted}
-use Rattle.trace.specs.Records.{Record, recordHead, recordBytes, writable, headWritable, fileHeadBytes, bit}
+use Rattle.trace.specs.Format.{Bytes, Edition, known, admitted}
+use Rattle.trace.specs.Records.{Record, recordHead, recordBytes, writable, writtenEdition, headReadable, headWritable, fileHeadBytes, bit}
 use Rattle.trace.specs.Answers.{Writes, upTo, recordWith}
 use Rattle.trace.specs.declared.writer.Writing.the-variants.{UpTo, Refused}
 use Rattle.trace.specs.Layouts.{IsEdition}
@@ -122,22 +122,26 @@ module _ (e : Edition) (k : ℕ) (d : Bool) (pay room : Bytes) (at : ℕ) (admit
 
 -- ---- a file head
 
-module _ (e d c : ℕ) (room : Bytes) (longest : ℕ) (its : longest ≡ editionOf e .longest) where
-  pub head-unknown : longest ≡ 0 → Writes (headWritable e c) (fileHeadBytes e d c) room 0 (Refused 36) room
-  head-unknown z = not-read (headWritable e c) (fileHeadBytes e d c) room 0 (ap (λ (b : Bool). b && ltb c 256) (ap (ltb 0) (sym its ∙ z)))
+module _ (e d c : ℕ) (room : Bytes) where
+  pub head-other : (e ≡ writtenEdition → ⊥) → Writes (headWritable e c) (fileHeadBytes e d c) room 0 (Refused 36) room
+  head-other n =
+      not-read (headWritable e c) (fileHeadBytes e d c) room 0 (ap (λ (b : Bool). b && headReadable e c) (ne-eqb e writtenEdition n))
 
   pub head-wide : 256 ≤ c → Writes (headWritable e c) (fileHeadBytes e d c) room 0 (Refused 36) room
-  head-wide h = not-read (headWritable e c) (fileHeadBytes e d c) room 0 (ap (λ (b : Bool). known e && b) (le-ltb c 256 h) ∙ and-false (known e))
+  head-wide h =
+      let none : headReadable e c ≡ false = ap (λ (b : Bool). known e && b) (le-ltb c 256 h) ∙ and-false (known e) in
+      not-read (headWritable e c) (fileHeadBytes e d c) room 0 (ap (λ (b : Bool). eqb e writtenEdition && b) none ∙ and-false (eqb e writtenEdition))
 
   pub head-not-held : length room < 4 → Writes (headWritable e c) (fileHeadBytes e d c) room 0 (Refused 36) room
   head-not-held h =
       let z = length-fileHeadBytes e d c in
       not-held (headWritable e c) (fileHeadBytes e d c) room 0 (lt-leb (0 + length (fileHeadBytes e d c)) (length room) (omega arith))
 
-  pub head-written : (longest ≡ 0 → ⊥) → c < 256 → 4 ≤ length room → (after : Bytes)
+  pub head-written : e ≡ writtenEdition → c < 256 → 4 ≤ length room → (after : Bytes)
       → after ≡ paste room 0 (fileHeadBytes e d c) (length (fileHeadBytes e d c)) → Writes (headWritable e c) (fileHeadBytes e d c) room 0 (UpTo 4) after
-  head-written n hc h after ea =
+  head-written is hc h after ea =
       let z = length-fileHeadBytes e d c in
       let held = le-leb (0 + length (fileHeadBytes e d c)) (length room) (omega arith) in
-      let some : known e ≡ true = ap (ltb 0) (sym its) ∙ lt-ltb 0 longest (omega arith) in
-      written (headWritable e c) (fileHeadBytes e d c) room 0 (both (known e) (ltb c 256) some (lt-ltb c 256 hc)) held 4 after (omega arith) ea
+      let its = both (known e) (ltb c 256) (ap known is) (lt-ltb c 256 hc) in
+      written (headWritable e c) (fileHeadBytes e d c) room 0 (both (eqb e writtenEdition) (headReadable e c) (eq-eqb e writtenEdition is) its) held 4 after
+      (omega arith) ea

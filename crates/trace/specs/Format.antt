@@ -21,14 +21,35 @@ pub record Edition : Type 0 where
   pub unit : ℕ
   pub longest : ℕ
 
--- "edition 8 (value 1)": "length 21, zero 7", "Payloads have 1 to 1,048,628 bytes". An edition that is not known has no payload
-abbrev pub editionOf : ℕ → Edition
-editionOf n =
-    cond (eqb n 1) (record { unit = 128; longest = 1048628 })
-    (record { unit = 1; longest = 0 })
+-- "edition 8 (value 1)": "length 21, zero 7", "Payloads have 1 to 1,048,628 bytes"
+abbrev pub edition1 : Edition
+edition1 = record { unit = 128; longest = 1048628 }
+
+-- "edition 2 has length 24 and zero 4, payloads up to 8,454,196"
+abbrev pub edition2 : Edition
+edition2 = record { unit = 16; longest = 8454196 }
+
+-- an edition that a reader does not know has no payload
+abbrev pub noEdition : Edition
+noEdition = record { unit = 1; longest = 0 }
+
+-- what a reader knows: the edition of each number
+abbrev pub Editions : Type 0
+Editions = ℕ → Edition
+
+-- "New readers read both editions"
+abbrev pub editionOf : Editions
+editionOf n = cond (eqb n 1) edition1 (cond (eqb n 2) edition2 noEdition)
+
+-- "An edition 1 reader", as it was before edition 2
+abbrev pub firstEditions : Editions
+firstEditions n = cond (eqb n 1) edition1 noEdition
+
+abbrev pub knownTo : Editions → ℕ → Bool
+knownTo editions n = ltb 0 (editions n .longest)
 
 abbrev pub known : ℕ → Bool
-known n = ltb 0 (editionOf n .longest)
+known = knownTo editionOf
 
 -- ---- the file head, which is the first four bytes: "File head, 32 bits: edition 8 (value 1), dialect 16, cipher 8."
 
@@ -46,8 +67,8 @@ abbrev pub cipherIn : ℕ → ℕ
 cipherIn h = h % 256
 
 -- not "a bad file head (short, or another edition)"
-unfoldable pub goodFileHead : Bytes → Bool
-goodFileHead f = leb 4 (length f) && known (editionIn (headIn f))
+unfoldable pub goodFileHead : Editions → Bytes → Bool
+goodFileHead editions f = leb 4 (length f) && knownTo editions (editionIn (headIn f))
 
 pub data FileReading : Type 0 where
   -- edition, dialect, cipher
@@ -55,10 +76,15 @@ pub data FileReading : Type 0 where
   -- 36
   badFileHead : FileReading
 
-unfoldable pub readFileHead : Bytes → FileReading
-readFileHead f = cond (goodFileHead f) (fileHead (editionIn (headIn f)) (dialectIn (headIn f)) (cipherIn (headIn f))) badFileHead
+unfoldable pub readFileHeadBy : Editions → Bytes → FileReading
+readFileHeadBy editions f =
+    cond (goodFileHead editions f) (fileHead (editionIn (headIn f)) (dialectIn (headIn f)) (cipherIn (headIn f))) badFileHead
 
--- ---- the record head: "Record head, 32 bits: kind 3, direction 1 (1 is from the server), length 21, zero 7; then the payload."
+abbrev pub readFileHead : Bytes → FileReading
+readFileHead = readFileHeadBy editionOf
+
+-- ---- the record head: "Record head, 32 bits: kind 3, direction 1 (1 is from the server), length 21, zero 7; then the payload.", and in
+-- edition 2 "length 24 and zero 4"
 
 abbrev pub kindIn : ℕ → ℕ
 kindIn h = h / 536870912
@@ -69,8 +95,8 @@ fromServerIn h = eqb (h / 268435456 % 2) 1
 abbrev pub lengthIn : Edition → ℕ → ℕ
 lengthIn e h = h % 268435456 / e .unit
 
--- "Kinds: 0 negotiate, 1 session setup, 2 sealed, 3 lab session". "Payloads have 1 to 1,048,628 bytes, kind 3 exactly 24; other kinds,
--- wrong lengths .. are unreadable". Of a kind and a payload's length
+-- "Kinds: 0 negotiate, 1 session setup, 2 sealed, 3 lab session". "Payloads have 1 to" the edition's longest, "kind 3 exactly 24; other
+-- kinds, wrong lengths .. are unreadable". Of a kind and a payload's length
 abbrev pub admitted : Edition → ℕ → ℕ → Bool
 admitted e kind n = leb kind 3 && (leb 1 n && (leb n (e .longest) && (not (eqb kind 3) || eqb n 24)))
 
@@ -118,9 +144,12 @@ readAt e f p =
     (cond (readable e s) (found (kindIn (headIn s)) (fromServerIn (headIn s)) (p + 4) (lengthIn e (headIn s)) (p + sizeIn e s)) unreadable)
 
 -- "as to a bad file head": of a whole file, which begins with its head, the record at place p
-abbrev pub afterHead : FileReading → Bytes → ℕ → Reading
-afterHead (fileHead e d c) f p = readAt (editionOf e) f p
-afterHead badFileHead f p = unreadable
+abbrev pub afterHead : Editions → FileReading → Bytes → ℕ → Reading
+afterHead editions (fileHead e d c) f p = readAt (editions e) f p
+afterHead editions badFileHead f p = unreadable
 
-unfoldable pub readIn : Bytes → ℕ → Reading
-readIn f p = afterHead (readFileHead f) f p
+unfoldable pub readInBy : Editions → Bytes → ℕ → Reading
+readInBy editions f p = afterHead editions (readFileHeadBy editions f) f p
+
+abbrev pub readIn : Bytes → ℕ → Reading
+readIn = readInBy editionOf

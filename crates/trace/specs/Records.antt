@@ -3,7 +3,7 @@
 use mathlib.Core.Bool.{Bool, true, false, cond, _&&_}
 use mathlib.Core.List.{List, [], _∷_, _++_}
 use Prim.Native.Nat.{ℕ, zero, suc, _+_, _*_}
-use lib.Dec.{leb, ltb}
+use lib.Dec.{leb, ltb, eqb}
 use lib.ListN.{length, take, drop}
 use lib.Seq.{paste}
 use Rattle.octets.specs.Numbers.{toBigEndian}
@@ -39,9 +39,9 @@ readAll e s = readSome (length s) e s
 
 -- ---- writing
 
--- the edition of every record that is written
+-- "a new writer writes edition 2 only"
 abbrev pub writtenEdition : ℕ
-writtenEdition = 1
+writtenEdition = 2
 
 -- the direction's bit
 abbrev pub bit : Bool → ℕ
@@ -68,8 +68,12 @@ allWritable e [] = true
 allWritable e (r ∷ rs) = writable e r && allWritable e rs
 
 -- a file head that the reader would read: of a known edition, and with a cipher that its eight bits hold
+abbrev pub headReadable : ℕ → ℕ → Bool
+headReadable edition cipher = known edition && ltb cipher 256
+
+-- "and answers 36 to an edition 1 head"
 abbrev pub headWritable : ℕ → ℕ → Bool
-headWritable edition cipher = known edition && ltb cipher 256
+headWritable edition cipher = eqb edition writtenEdition && headReadable edition cipher
 
 -- "File head, 32 bits: edition 8, dialect 16, cipher 8"
 unfoldable pub fileHeadBytes : ℕ → ℕ → ℕ → Bytes

@@ -19,6 +19,12 @@ pub fn layout_of(edition: u8) -> Layout
             longest: 1048628,
         };
     }
+    if edition == 2 {
+        return Layout {
+            unit: 16,
+            longest: 8454196,
+        };
+    }
     Layout {
         unit: 1,
         longest: 0,

@@ -15,7 +15,7 @@ ghost use Rattle.trace.specs.Records.{bit, recordHead, fileHeadBytes, he
 ghost use Rattle.trace.specs.Answers.{Writes, recordWith, writtenOf, writtenNumber, placeBehind};
 
 // The edition of every record that is written.
-const WRITTEN: u8 = 1;
+const WRITTEN: u8 = 2;
 
 pub enum Writing {
     // The place behind what was written.
@@ -93,8 +93,7 @@ fn holds(room: usize, at: usize, n: usize) -> bool
 pub fn write_file_head(edition: u8, dialect: u16, cipher: u16, room: &mut [u8]) -> Writing
     ensures { λ r. ⌜ Writes (headWritable edition cipher) (fileHeadBytes edition dialect cipher) (now (room .entry)) 0 r (now (room .exit)) ⌝ }
 {
-    let l = layout_of(edition);
-    if l.longest == 0 {
+    if edition != WRITTEN {
         return Writing::Refused(36);
     }
     if 256 <= cipher {

@@ -1,4 +1,5 @@
 pub mod RoundTrip
 pub mod Lists
 pub mod Apart
+pub mod Editions
 pub mod Traces

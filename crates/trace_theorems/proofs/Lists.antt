@@ -12,9 +12,10 @@ use lib.ListN.{length, take, drop, length-append, length-drop, length-take, take
 use lib.Seq.{paste, take-at, drop-at, take-length, take-paste, length-paste}
 use Rattle.octets.specs.Numbers.{bigEndian}
 use Rattle.octets.proofs.NumberLaws.{big-back}
-use Rattle.trace.specs.Format.{Bytes, Edition, editionOf, known, headIn, editionIn, dialectIn, cipherIn, goodFileHead, fileHead, badFileHead, readFileHead}
+use Rattle.trace.specs.Format.{Bytes, Edition, editionOf, known, headIn, editionIn, dialectIn, cipherIn, goodFileHead, fileHead, badFileHead}
+use Rattle.trace.specs.Format.{readFileHeadBy, readFileHead}
 use Rattle.trace.specs.Format.{sizeIn, readable}
-use Rattle.trace.specs.Records.{Record, recordIn, Contents, before, readSome, readAll, recordBytes, writable, recordsBytes, allWritable, headWritable, fileHeadBytes, Room}
+use Rattle.trace.specs.Records.{Record, recordIn, Contents, before, readSome, readAll, recordBytes, writable, recordsBytes, allWritable, headReadable, fileHeadBytes, Room}
 use Rattle.trace.specs.Records.{accepts, writeNext, writeList, accepted}
 use Rattle.trace.proofs.FormatLaws.{readable-good}
 use Rattle.trace.proofs.WriteLaws.{length-fileHeadBytes}
@@ -199,9 +200,9 @@ calls-read n rs w h =
 -- ---- whole files
 
 -- a file head, and whatever stands behind it
-pub file-read : (n d c : ℕ) (s : Bytes) → headWritable n c ≡ true → n < 256 → d < 65536
+pub file-read : (n d c : ℕ) (s : Bytes) → headReadable n c ≡ true → n < 256 → d < 65536
     → (readFileHead (fileHeadBytes n d c ++ s) ≡ fileHead n d c) × (drop 4 (fileHeadBytes n d c ++ s) ≡ s)
-unfolding readFileHead goodFileHead fileHeadBytes
+unfolding readFileHeadBy goodFileHead fileHeadBytes
 file-read n d c s w hn hd =
     let ok = and-true (known n) (ltb c 256) w in
     let hc = ltb-true c 256 (ok .1) in
@@ -215,24 +216,15 @@ file-read n d c s w hn hd =
     let ec : cipherIn (headIn (b ++ s)) ≡ c = ap cipherIn e ∙ omega arith in
     (rw (le-leb 4 (length (b ++ s)) long, ap known en ∙ ok .0) (λ i. fileHead (en i) (ed i) (ec i)), drop-at b s 4 four)
 
-pub whole-file : (n d c : ℕ) (rs : List Record) → headWritable n c ≡ true → n < 256 → d < 65536 → allWritable (editionOf n) rs ≡ true
+pub whole-file : (n d c : ℕ) (rs : List Record) → headReadable n c ≡ true → n < 256 → d < 65536 → allWritable (editionOf n) rs ≡ true
     → (readFileHead (fileOf n d c rs) ≡ fileHead n d c) × (readAll (editionOf n) (drop 4 (fileOf n d c rs)) ≡ record { records = rs; rest = [] })
 whole-file n d c rs k hn hd w =
     let f = file-read n d c (recordsBytes (editionOf n) rs) k hn hd in
     (f .0, ap (readAll (editionOf n)) (f .1) ∙ same-records n rs w)
 
--- a file of any other edition is refused by its edition byte
-pub other-edition : (f : Bytes) → known (editionIn (headIn f)) ≡ false → readFileHead f ≡ badFileHead
-unfolding readFileHead goodFileHead
-other-edition f k = by (leb 4 (length f)) (known (editionIn (headIn f))) k
-  where
-    by : (a b : Bool) → b ≡ false → cond (a && b) (fileHead (editionIn (headIn f)) (dialectIn (headIn f)) (cipherIn (headIn f))) badFileHead ≡ badFileHead
-    by true b q = rw q
-    by false b q = refl
-
 -- a head that is read back is of a known edition, with a cipher of eight bits
-pub head-back : (f : Bytes) (n d c : ℕ) → readFileHead f ≡ fileHead n d c → headWritable n c ≡ true
-unfolding readFileHead goodFileHead
+pub head-back : (f : Bytes) (n d c : ℕ) → readFileHead f ≡ fileHead n d c → headReadable n c ≡ true
+unfolding readFileHeadBy goodFileHead
 head-back f n d c t = by (leb 4 (length f) && known (editionIn (headIn f))) refl t
   where
     edition : {x y z a b c : ℕ} → fileHead x y z ≡ fileHead a b c → x ≡ a
@@ -242,7 +234,7 @@ head-back f n d c t = by (leb 4 (length f) && known (editionIn (headIn f))) refl
     cipher e = cc
 
     by : (b : Bool) → (leb 4 (length f) && known (editionIn (headIn f))) ≡ b
-        → cond b (fileHead (editionIn (headIn f)) (dialectIn (headIn f)) (cipherIn (headIn f))) badFileHead ≡ fileHead n d c → headWritable n c ≡ true
+        → cond b (fileHead (editionIn (headIn f)) (dialectIn (headIn f)) (cipherIn (headIn f))) badFileHead ≡ fileHead n d c → headReadable n c ≡ true
     by true g q =
         let same = cipher q in
         both (known n) (ltb c 256) (ap known (sym (edition q)) ∙ and-true (leb 4 (length f)) (known (editionIn (headIn f))) g .1) (lt-ltb c 256 (omega arith))

@@ -13,7 +13,7 @@ use lib.ListN.{length, take, drop, length-append, length-take, length-drop}
 use lib.Seq.{take-at, drop-at, take-add}
 use Rattle.octets.specs.Numbers.{bigEndianAfter, bigEndian, toBigEndian}
 use Rattle.octets.proofs.NumberLaws.{big-back}
-use Rattle.trace.specs.Format.{Bytes, Edition, editionOf, headIn, kindIn, fromServerIn, lengthIn, admitted, goodHead, sizeIn, readable}
+use Rattle.trace.specs.Format.{Bytes, Edition, edition1, edition2, noEdition, editionOf, headIn, kindIn, fromServerIn, lengthIn, admitted, goodHead, sizeIn, readable}
 use Rattle.trace.specs.Records.{Record, recordIn, bit, recordHead, recordBytes, writable}
 use Rattle.trace_theorems.specs.Traces.{Octets, none, more}
 use Rattle.trace.proofs.FormatLaws.{four-there, readable-good}
@@ -79,14 +79,21 @@ pub record Sound (e : Edition) : Type 0 where
   pub read-written : (h : ℕ) → h < 4294967296 → h % e .unit ≡ 0
       → kindIn h * 536870912 + h / 268435456 % 2 * 268435456 + lengthIn e h * e .unit ≡ h
 
-sound-1 : Sound (record { unit = 128; longest = 1048628 })
+sound-1 : Sound edition1
 sound-1 =
     record {
       written-read = λ k b n hk hb h1 hn. (omega arith, omega arith, omega arith, omega arith, omega arith);
       read-written = λ h l z. omega arith;
     }
 
-sound-none : Sound (record { unit = 1; longest = 0 })
+sound-2 : Sound edition2
+sound-2 =
+    record {
+      written-read = λ k b n hk hb h1 hn. (omega arith, omega arith, omega arith, omega arith, omega arith);
+      read-written = λ h l z. omega arith;
+    }
+
+sound-none : Sound noEdition
 sound-none =
     record {
       written-read = λ k b n hk hb h1 hn. absurd (omega arith);
@@ -94,11 +101,12 @@ sound-none =
     }
 
 pub sound : (n : ℕ) → Sound (editionOf n)
-sound n = by (eqb n 1)
+sound n = by (eqb n 1) (eqb n 2)
   where
-    by : (t : Bool) → Sound (cond t (record { unit = 128; longest = 1048628 }) (record { unit = 1; longest = 0 }))
-    by true = sound-1
-    by false = sound-none
+    by : (one two : Bool) → Sound (cond one edition1 (cond two edition2 noEdition))
+    by true two = sound-1
+    by false true = sound-2
+    by false false = sound-none
 
 -- ---- one record
 

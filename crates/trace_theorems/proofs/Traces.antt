@@ -6,8 +6,9 @@ use Rattle.trace.specs.Format.{editionOf}
 use Rattle.trace.specs.Records.{recordBytes, writable, fileHeadBytes}
 use Rattle.trace_theorems.specs.Traces.{Traces}
 use Rattle.trace_theorems.proofs.RoundTrip.{sound, reads, read-writable}
-use Rattle.trace_theorems.proofs.Lists.{calls-read, whole-file, file-read, head-back, read-written, all-read-writable, other-edition}
+use Rattle.trace_theorems.proofs.Lists.{calls-read, whole-file, file-read, head-back, read-written, all-read-writable}
 use Rattle.trace_theorems.proofs.Apart.{same-readable, same-record}
+use Rattle.trace_theorems.proofs.Editions.{other-edition, first-read, one-written, first-refuses}
 
 pub traces : Traces
 traces =
@@ -27,7 +28,8 @@ traces =
           };
       reading-apart =
           record {
-            other-edition = other-edition;
+            other-edition = other-edition editionOf;
             front-enough = λ n m s four holds. (same-readable (editionOf n) m s four holds, same-record (editionOf n) m s four holds);
           };
+      two-editions = record { first-read = first-read; one-written = one-written; first-refuses = first-refuses };
     }

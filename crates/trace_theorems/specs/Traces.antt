@@ -5,8 +5,10 @@ use mathlib.Core.Bool.{true, false}
 use mathlib.Core.List.{List, [], _∷_, _++_}
 use Prim.Native.Nat.{ℕ, _<_, _≤_}
 use lib.ListN.{length, take, drop}
-use Rattle.trace.specs.Format.{Bytes, editionOf, known, headIn, editionIn, fileHead, badFileHead, readFileHead, goodHead, sizeIn, readable}
-use Rattle.trace.specs.Records.{Record, recordIn, readAll, recordBytes, writable, recordsBytes, allWritable, headWritable, fileHeadBytes, Room, writeList, accepted}
+use Rattle.trace.specs.Format.{Bytes, editionOf, firstEditions, known, headIn, editionIn, fileHead, badFileHead, readFileHeadBy, readFileHead, goodHead, sizeIn}
+use Rattle.trace.specs.Format.{readable, unreadable, readInBy, readIn}
+use Rattle.trace.specs.Records.{Record, recordIn, readAll, recordBytes, writable, recordsBytes, allWritable, headReadable, headWritable, fileHeadBytes, Room}
+use Rattle.trace.specs.Records.{writeList, accepted}
 
 -- all are bytes
 pub data Octets : Bytes → Type 0 where
@@ -24,8 +26,8 @@ pub record WritesWhatIsRead : Type 0 where
       writable e r ≡ true → (readable e s ≡ true) × (recordIn e s ≡ r)
   pub record-written : (n : ℕ) (r : Record) (rest : Bytes) → let e = editionOf n in let s = recordBytes e r ++ rest in
       readable e s ≡ true → recordIn e s ≡ r → writable e r ≡ true
-  pub head-read : (n d c : ℕ) (rest : Bytes) → n < 256 → d < 65536 → headWritable n c ≡ true → readFileHead (fileHeadBytes n d c ++ rest) ≡ fileHead n d c
-  pub head-written : (n d c : ℕ) (rest : Bytes) → readFileHead (fileHeadBytes n d c ++ rest) ≡ fileHead n d c → headWritable n c ≡ true
+  pub head-read : (n d c : ℕ) (rest : Bytes) → n < 256 → d < 65536 → headReadable n c ≡ true → readFileHead (fileHeadBytes n d c ++ rest) ≡ fileHead n d c
+  pub head-written : (n d c : ℕ) (rest : Bytes) → readFileHead (fileHeadBytes n d c ++ rest) ≡ fileHead n d c → headReadable n c ≡ true
 
 -- "Writing then reading gives the same records"
 pub record WritingThenReading : Type 0 where
@@ -33,8 +35,8 @@ pub record WritingThenReading : Type 0 where
   -- refused, and nothing else
   pub calls-read : (n : ℕ) (rs : List Record) (w : Room) → w .at ≤ length (w .bytes) → let e = editionOf n in let after = writeList e rs w in
       readAll e (drop (w .at) (take (after .at) (after .bytes))) ≡ record { records = accepted e rs w; rest = [] }
-  -- every file of records that the writer accepts
-  pub file-read : (n d c : ℕ) (rs : List Record) → n < 256 → d < 65536 → headWritable n c ≡ true → allWritable (editionOf n) rs ≡ true
+  -- every file of records that the writer of its edition accepts
+  pub file-read : (n d c : ℕ) (rs : List Record) → n < 256 → d < 65536 → headReadable n c ≡ true → allWritable (editionOf n) rs ≡ true
       → (readFileHead (fileOf n d c rs) ≡ fileHead n d c) × (readAll (editionOf n) (drop 4 (fileOf n d c rs)) ≡ record { records = rs; rest = [] })
   -- and of any bytes: what was read, written again, and what is left are those bytes; the writer accepts every record that was read
   pub written-again : (n : ℕ) (s : Bytes) → Octets s → let c = readAll (editionOf n) s in
@@ -48,7 +50,19 @@ pub record ReadingApart : Type 0 where
   pub front-enough : (n m : ℕ) (s : Bytes) → let e = editionOf n in 4 ≤ m → (goodHead e s ≡ true → sizeIn e s ≤ m)
       → (readable e (take m s) ≡ readable e s) × (readable e s ≡ true → recordIn e (take m s) ≡ recordIn e s)
 
+-- two editions
+pub record TwoEditions : Type 0 where
+  -- "New readers read both editions": whatever the edition 1 reader reads, at every place of the file
+  pub first-read : (f : Bytes) (e d c : ℕ) → readFileHeadBy firstEditions f ≡ fileHead e d c
+      → (readFileHead f ≡ fileHead e d c) × ((p : ℕ) → readIn f p ≡ readInBy firstEditions f p)
+  -- "a new writer writes edition 2 only, and answers 36 to an edition 1 head"
+  pub one-written : (n c : ℕ) → headWritable n c ≡ true → n ≡ 2
+  -- "An edition 1 reader must refuse an edition 2 file by its edition byte and show no record"
+  pub first-refuses : (f : Bytes) → editionIn (headIn f) ≡ 2
+      → (readFileHeadBy firstEditions f ≡ badFileHead) × ((p : ℕ) → readInBy firstEditions f p ≡ unreadable)
+
 pub record Traces : Type 0 where
   pub writes-what-is-read : WritesWhatIsRead
   pub writing-then-reading : WritingThenReading
   pub reading-apart : ReadingApart
+  pub two-editions : TwoEditions

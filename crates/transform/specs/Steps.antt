@@ -4,11 +4,12 @@ use mathlib.Core.Path.{_≡_}
 use mathlib.Core.Bool.{Bool}
 use mathlib.Core.List.{[], _∷_}
 use mathlib.Core.Option.{Option, Option·getD}
-use Prim.Native.Nat.{ℕ, _≤_, _<_}
+use Prim.Native.Nat.{ℕ, _+_, _≤_, _<_}
 use lib.ListN.{length}
 use Rattle.octets.specs.Maybe.{isSome}
 use Rattle.protocol.specs.Bytes.{Bytes}
 use Rattle.protocol.specs.Answer.{Answer, whenDone, judge}
+use Rattle.protocol.specs.Connection.{longestMessage}
 use Rattle.protocol.specs.TransformHeader.{TransformHeader}
 use Rattle.protocol.specs.InnerHeader.{Envelope}
 use Rattle.protocol.specs.Compound.{walk}
@@ -35,7 +36,7 @@ pub record Deciphered (x : Cipher) (key nonce auth received body body′ : Bytes
 -- lengths that 2 and 3 let pass
 pub record Sized (m : Bytes) : Type 0 where
   pub long : 52 < length m
-  pub short : length m ≤ 1048628
+  pub short : length m ≤ 52 + longestMessage
 
 -- 10 and then the walk, of a text of n bytes
 abbrev pub sizeThenWalk : TransformHeader → Envelope → ℕ → Bytes → Answer

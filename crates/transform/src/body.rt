@@ -5,6 +5,7 @@ use transform_header::TransformHeader;
 ghost use mathlib.Core.Path.{_≡_};
 ghost use Prim.Native.Nat.{_≤_};
 ghost use lib.ListN.{length};
+ghost use Rattle.protocol.specs.Connection.{longestMessage};
 ghost use Rattle.protocol.specs.TransformHeader.{headerOf, inner, transformMessage};
 ghost use Rattle.protocol.specs.Compound.{walk};
 ghost use Rattle.protocol.specs.Transform.{sealedUnder};
@@ -26,7 +27,7 @@ fn size_then_walk(h: TransformHeader, e: Envelope, text: &[u8]) -> Answer
 
 // Opens the text in place, from the tag on. After a refusal the key stream is applied again, which turns it back.
 fn open_body(cipher: u16, key: &[u8], h: TransformHeader, e: Envelope, text: &mut [u8]) -> Answer
-    requires { ⌜ (length (now key) ≡ 16) × (length (now text) ≤ 1048576) ⌝ }
+    requires { ⌜ (length (now key) ≡ 16) × (length (now text) ≤ longestMessage) ⌝ }
     ensures { λ r. ⌜ OpensBody cipher (now (key .entry)) (headerFrom h) (envelopeOf e) (now (text .entry)) (now (text .exit)) (answerOf r) ⌝ }
 {
     let nonce = h.nonce;

@@ -7,42 +7,39 @@ use Prim.Native.Nat.{ℕ}
 use mathlib.Core.List.{List}
 use denote.Ref.{now}
 use mathlib.Core.Path.{ap, _∙_}
-use Rattle.trace.proofs.WriteLaws.{head-unknown, head-wide, head-not-held, head-written}
+use Rattle.trace.proofs.WriteLaws.{head-other, head-wide, head-not-held, head-written}
 use borrow.Author.Needs.{needs}
 use Rattle.trace.proofs.writer.write_file_head.Statement.{statement}
 use Rattle.trace.proofs.writer.write_file_head.Tie as tie
 
 returns : tie.Need-returns
 returns c =
-    let a = c .before .before .before .before .args in
-    head-unknown (a .edition) (a .dialect) (a .cipher) (now (a .room)) _ (c .before .before .layout-of .ensures .longest) (c .if1 .taken)
+    let a = c .before .before .args in
+    head-other (a .edition) (a .dialect) (a .cipher) (now (a .room)) (c .if1 .taken)
 
 returns-2 : tie.Need-returns-2
 returns-2 c =
-    let a = c .before .before .before .before .before .args in
-    head-wide (a .edition) (a .dialect) (a .cipher) (now (a .room)) _ (c .before .before .before .layout-of .ensures .longest) (c .if2 .taken)
+    let a = c .before .before .before .args in
+    head-wide (a .edition) (a .dialect) (a .cipher) (now (a .room)) (c .if2 .taken)
 
 returns-3 : tie.Need-returns-3
 returns-3 c =
-    let past = c .before .before .before .before in
-    let a = past .before .before .args in
-    head-not-held (a .edition) (a .dialect) (a .cipher) (now (a .room)) _ (past .layout-of .ensures .longest) (c .if3 .taken)
+    let a = c .before .before .before .before .args in
+    head-not-held (a .edition) (a .dialect) (a .cipher) (now (a .room)) (c .if3 .taken)
 
 returns-4 : tie.Need-returns-4
 unfolding fileHeadBytes
 returns-4 c =
     let past = c .before .before .before .before .before .before in
-    let first = past .before .before .before .before in
-    let a = first .before .before .args in
+    let a = past .before .before .before .before .args in
     let put = ap (λ (x : List ℕ). paste (now (a .room)) 0 x (length x)) (c .before .before .before .before .before .u32-bytes .ensures) in
-    head-written (a .edition) (a .dialect) (a .cipher) (now (a .room)) _ (first .layout-of .ensures .longest) (past .before .before .if1 .left)
-    (past .before .if2 .left) (past .if3 .left) _ (c .before .before .copy .ensures ∙ put)
+    head-written (a .edition) (a .dialect) (a .cipher) (now (a .room)) (past .before .before .if1 .left) (past .before .if2 .left) (past .if3 .left) _
+    (c .before .before .copy .ensures ∙ put)
 
 pub write-file-head-spec : {M : Type 1} → statement M
 write-file-head-spec =
     tie.close
     (tie.spec
-    (λ c κs. search needs)
     returns
     returns-2
     returns-3
