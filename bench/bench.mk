@@ -1,6 +1,6 @@
 # Benchmarks: never part of the tests. `make bench` takes some three minutes where the archives are proved; its figures are in
-# target/c: speed.csv, speed.png, stack.csv and table.csv. `make bench-docs` puts them into docs/. `make bench-table` is the session
-# table's part alone.
+# target/c: speed.csv, speed.png, stack.csv, table.csv and pieces.csv. `make bench-docs` puts them into docs/. `make bench-table` is the
+# session table's part alone, `make bench-pieces` that of messages in pieces.
 
 BENCH_PARTS = bench batch columns report peer_smb3seal peer_openssl peer_mbedtls peer_nettle peer_wolfssl peer_libtomcrypt
 BENCH_SOURCES = $(BENCH_PARTS:%=bench/%.c)
@@ -19,6 +19,13 @@ $(BUILD)/table: bench/table.c include/smb3seal.h $(ARCHIVE)
 	@mkdir -p $(BUILD)
 	$(CC) $(WARNINGS) -O2 $< $(ARCHIVE) -o $@
 
+$(BUILD)/pieces: bench/pieces.c include/smb3seal.h $(ARCHIVE)
+	@mkdir -p $(BUILD)
+	$(CC) $(WARNINGS) -O2 $< $(ARCHIVE) -o $@
+
+bench-pieces: $(BUILD)/pieces
+	@$(BUILD)/pieces $(BUILD)/pieces.csv
+
 bench-table: $(BUILD)/table
 	@$(BUILD)/table $(BUILD)/table.csv
 	@scripts/table-instructions $(BUILD)/table $(BUILD)/table.csv
@@ -28,9 +35,9 @@ bench: setup-bench
 	@$(BUILD)/bench $(BUILD)/speed.csv
 	@$(BUILD)/stack $(BUILD)/stack.csv
 	@gnuplot -c bench/speed.gp $(BUILD)/speed.csv $(BUILD)/speed.png
-	@$(MAKE) --no-print-directory bench-table
+	@$(MAKE) --no-print-directory bench-table bench-pieces
 
 bench-docs: bench
-	cp $(BUILD)/speed.csv $(BUILD)/speed.png $(BUILD)/stack.csv $(BUILD)/table.csv docs/
+	cp $(BUILD)/speed.csv $(BUILD)/speed.png $(BUILD)/stack.csv $(BUILD)/table.csv $(BUILD)/pieces.csv docs/
 
-.PHONY: bench bench-docs bench-table
+.PHONY: bench bench-docs bench-table bench-pieces

@@ -52,6 +52,14 @@ static uint32_t fold(void)
     return smb3seal_fold(chain, 64, message, LONGEST);
 }
 
+/* The deepest of the three calls counts; each is handed a state by value, which is on the caller's stack too. */
+static uint32_t fold_pieces(void)
+{
+    struct smb3seal_fold_step step = smb3seal_fold_begin(chain, 64);
+    step = smb3seal_fold_piece(step.state, message, LONGEST);
+    return smb3seal_fold_finish(step.state, chain, 64).number;
+}
+
 static uint32_t fold_response(void)
 {
     uint32_t folded;
@@ -124,6 +132,13 @@ static uint32_t verify(void)
     return smb3seal_verify(key, 16, message + HEADER, LONGEST);
 }
 
+static uint32_t verify_pieces(void)
+{
+    struct smb3seal_sign_step step = smb3seal_sign_begin(key, 16);
+    step = smb3seal_sign_piece(step.state, message + HEADER, LONGEST);
+    return smb3seal_verify_finish(step.state).number;
+}
+
 /* The longest message, a chain of headers of 64 bytes each; and the table. */
 static void plain(void)
 {
@@ -182,6 +197,7 @@ static const struct call calls[] = {
     {"derive, 3.1.1", plain, derive_311, 0, SMB3SEAL_DONE},
     {"fold", plain, fold, 0, SMB3SEAL_DONE},
     {"fold_response", response, fold_response, 0, SMB3SEAL_DONE},
+    {"fold, in pieces", plain, fold_pieces, 0, SMB3SEAL_DONE},
     {"seal, CCM", plain, seal, CCM, SMB3SEAL_DONE},
     {"seal, GCM", plain, seal, GCM, SMB3SEAL_DONE},
     {"open, CCM", sealed, open, CCM, SMB3SEAL_DONE},
@@ -201,6 +217,7 @@ static const struct call calls[] = {
     {"table_open, GCM, bad tag", sealed_with_bad_tag, table_open, GCM, SMB3SEAL_BAD_TAG},
     {"sign", plain, sign, 0, SMB3SEAL_DONE},
     {"verify", signed_in_clear, verify, 0, SMB3SEAL_DONE},
+    {"verify, in pieces", signed_in_clear, verify_pieces, 0, SMB3SEAL_DONE},
 };
 
 static void run_current(void)

@@ -1,7 +1,7 @@
 # The examples and the demo: compiled plain and with sanitizers, run, and compared with the output that is stored beside them.
 
 EXAMPLE_INPUTS = include/smb3seal.h include/smb3seal_text.h $(BUILD)/smb3_vectors.h $(ARCHIVE)
-EXAMPLES = seal_and_open server exchange sign demo
+EXAMPLES = seal_and_open server exchange sign pieces demo
 EXAMPLE_PROGRAMS = $(foreach e,$(EXAMPLES),$(BUILD)/examples/$(e) $(BUILD)/examples/$(e)_sanitized)
 
 $(BUILD)/examples/%: examples/%.c $(EXAMPLE_INPUTS)

@@ -6,6 +6,13 @@
  *     smb3seal_fold            a negotiate message or a session setup request
  *     smb3seal_fold_response   a session setup response
  *
+ * or in the chunks in which a message arrives, with a state that is handed on from piece to piece:
+ *
+ *     smb3seal_fold_begin            a message begins from a chain value
+ *     smb3seal_fold_piece            the next bytes of it
+ *     smb3seal_fold_finish           all of it folded: a negotiate message or a session setup request
+ *     smb3seal_fold_response_finish  all of it folded: a session setup response
+ *
  * With a session table, an array that the program owns, the library keeps keys and send counters in it and picks the right ones:
  *
  *     smb3seal_table_add       a session put into the table, with its four keys
@@ -35,6 +42,13 @@
  *     smb3seal_sign            a message made ready to send
  *     smb3seal_verify          a received message checked
  *
+ * and the same of a message that arrives, or is made, piece by piece:
+ *
+ *     smb3seal_sign_begin      a message begun under a key
+ *     smb3seal_sign_piece      its next bytes
+ *     smb3seal_sign_finish     its signature
+ *     smb3seal_verify_finish   or whether it verifies
+ *
  * No function allocates, locks, calls back or keeps anything outside of what it is lent: calls on different buffers may run in
  * different threads. Each is total: any numbers, any bytes, any table and any lengths get an answer.
  *
@@ -43,8 +57,9 @@
  * - Buffers and table of one call do not overlap, a lent number (counter, headers, folded, at) lies in none of them, and each pointer has
  *   as many bytes or records behind it as its length says. The library cannot check this, nor that a counter value is new under its
  *   key, nor that a table is the one that the call before left.
- * - Each function but smb3seal_table_find returns SMB3SEAL_DONE (0), or the number of the one reason for which it refused. After a
- *   refusal every byte and every number that was lent is as it was: message, table, counter, headers, folded, chain, keys, trace.
+ * - Each function but smb3seal_table_find returns SMB3SEAL_DONE (0), or the number of the one reason for which it refused; those for
+ *   pieces return it as the `number` of a step, beside the state. After a refusal every byte and every number that was lent is as it
+ *   was: message, table, counter, headers, folded, chain, keys, trace.
  * - Where several reasons apply, SMB3SEAL_BAD_LENGTH comes first and then the lowest number wins; but 29 stands between 5 and 6, and the
  *   walk over the headers of a compounded message ends at the first header that breaks a rule.
  *
@@ -78,9 +93,9 @@ extern "C" {
  */
 
 #define SMB3SEAL_VERSION_MAJOR 0
-#define SMB3SEAL_VERSION_MINOR 8
+#define SMB3SEAL_VERSION_MINOR 9
 #define SMB3SEAL_VERSION_PATCH 0
-#define SMB3SEAL_VERSION "0.8.0"
+#define SMB3SEAL_VERSION "0.9.0"
 
 /* ---- dialects and ciphers, as MS-SMB2 numbers them */
 
@@ -182,7 +197,7 @@ extern "C" {
 #define SMB3SEAL_TABLE_FULL 22 /* no record is free for the session to add */
 
 /* Folding. Disconnect: no negotiate or session setup message has such a length. */
-#define SMB3SEAL_FOLD_LENGTH 23 /* the message has under 64 or over 8,454,144 bytes */
+#define SMB3SEAL_FOLD_LENGTH 23 /* the message has under 64 or over 8,454,144 bytes, or would with this piece */
 
 /* Verifying. A server fails the request with STATUS_ACCESS_DENIED, a client discards the message; both may disconnect. */
 #define SMB3SEAL_NOT_SIGNED 24    /* the signed flag (0x00000008 of Flags, bytes 16..20) is missing */
@@ -191,11 +206,11 @@ extern "C" {
 /* Opening, with GCM alone. The sender breaks a rule of MS-SMB2: as on 1 to 16, a server disconnects, and a client uses nothing of it. */
 #define SMB3SEAL_DIRTY_NONCE 29 /* under GCM one of the last four bytes of the Nonce field (32..36) is not 0; tested after 5 and before 6 */
 
-/* Lab traces. Reading: the trace is damaged or cut off from this place on. Writing: a fault of the program, or no room is left. A rescue: the head cannot be read, or no room is left. */
+/* Lab traces. Reading: the trace is damaged or cut off from this place on. Writing: a fault of the program, or no room is left. */
 #define SMB3SEAL_UNREADABLE 36 /* no head or record of a lab trace that a reader reads, or the room does not hold it */
 
 /* Lengths that are fixed. A fault of the program, on every dialect. */
-#define SMB3SEAL_BAD_LENGTH 40 /* a key is not 16, a chain value not 64, or the place for the keys not 64 bytes long */
+#define SMB3SEAL_BAD_LENGTH 40 /* a key is not 16, a chain value not 64, the place for the keys not 64, or that for a signature not 16 bytes long */
 
 /* ---- functions */
 
@@ -221,6 +236,84 @@ uint32_t smb3seal_fold(uint8_t *chain, size_t chain_len, const uint8_t *message,
  * Answers 0, or 40, 23.
  */
 uint32_t smb3seal_fold_response(uint8_t *chain, size_t chain_len, const uint8_t *message, size_t message_len, uint32_t *folded);
+
+/*
+ * ---- folding a message as it arrives
+ *
+ * The pieces of a message may be cut anywhere, and may be empty. The program begins with the chain value, hands each piece over as it
+ * comes, and finishes; the chain then holds what one smb3seal_fold of all the pieces would have left. To give a message up needs no
+ * call: the chain is as it was.
+ *
+ *     struct smb3seal_fold_step step = smb3seal_fold_begin(chain, sizeof chain);
+ *     while (step.number == 0 && (n = recv(.., bytes, ..)) > 0) step = smb3seal_fold_piece(step.state, bytes, n);
+ *     if (step.number == 0) step = smb3seal_fold_finish(step.state, chain, sizeof chain);
+ *     if (step.number != 0) ..
+ *
+ * A state goes in by value and the one to go on with comes back: hand in the latest, and each once. It is the library's: a program
+ * stores it, copies it and wipes it, and never looks inside. Any bytes are a state and get an answer; one of zero bytes has no message
+ * under way, and so has one that a refused begin or any finish handed back: a piece and a finish are then 23.
+ *
+ * After a refused piece the message goes on without that piece, and a finish folds the rest. That is not the message that the peer
+ * sent: give it up, and disconnect. And finish or give up one message before another goes into the same chain.
+ */
+
+struct smb3seal_fold_state {
+    uint64_t hash[8];
+    uint8_t buffer[128];
+    uint64_t count;
+    uint64_t joined;
+    uint8_t head[12];
+    uint8_t underway;
+    uint8_t spare[3];
+};
+
+struct smb3seal_fold_step {
+    struct smb3seal_fold_state state; /* to go on with */
+    uint32_t number;                  /* SMB3SEAL_DONE, or why it was refused */
+    uint32_t folded;                  /* of a finish: 1 if the message was folded, 0 if not; of the others 0 */
+};
+
+/*
+ * Begins a message on a chain value.
+ *
+ * chain  reads: the value, SMB3SEAL_CHAIN_BYTES long
+ *
+ * Answers 0, or 40.
+ */
+struct smb3seal_fold_step smb3seal_fold_begin(const uint8_t *chain, size_t chain_len);
+
+/*
+ * Takes the next bytes of the message. A piece with which it would have more than SMB3SEAL_LONGEST_MESSAGE bytes is refused, and the
+ * state handed back is the one handed in.
+ *
+ * state  the one that the call before handed back
+ * piece  reads: the bytes, of any length
+ *
+ * Answers 0, or 23.
+ */
+struct smb3seal_fold_step smb3seal_fold_piece(struct smb3seal_fold_state state, const uint8_t *piece, size_t piece_len);
+
+/*
+ * Folds the message, a negotiate request or response or a session setup request: the chain becomes SHA-512 of the value that the
+ * message began from, followed by the pieces. Ends the message, whatever the answer.
+ *
+ * state  the one that the call before handed back
+ * chain  writes: the value, SMB3SEAL_CHAIN_BYTES long; lend the chain that the message began from
+ *
+ * Answers 0, or 40, 23.
+ */
+struct smb3seal_fold_step smb3seal_fold_finish(struct smb3seal_fold_state state, uint8_t *chain, size_t chain_len);
+
+/*
+ * The same for a session setup response, which is folded only if its Status, wherever it was cut, is STATUS_MORE_PROCESSING_REQUIRED
+ * (0xC0000016). Else the chain stays as it is, and `folded` is 0; both are done.
+ *
+ * state  the one that the call before handed back
+ * chain  writes: the value, SMB3SEAL_CHAIN_BYTES long; lend the chain that the message began from
+ *
+ * Answers 0, or 40, 23.
+ */
+struct smb3seal_fold_step smb3seal_fold_response_finish(struct smb3seal_fold_state state, uint8_t *chain, size_t chain_len);
 
 /*
  * Derives the four keys of a session (MS-SMB2 3.1.4.2, 3.2.5.3.1), each of 16 bytes.
@@ -304,6 +397,84 @@ uint32_t smb3seal_sign(const uint8_t *key, size_t key_len, uint8_t *message, siz
  * Answers 0, or 40, 3, 11, 12, 24, 25.
  */
 uint32_t smb3seal_verify(const uint8_t *key, size_t key_len, const uint8_t *message, size_t message_len);
+
+/*
+ * ---- signing and verifying a message as it arrives
+ *
+ * The pieces of a message may be cut anywhere, and may be empty. The program begins with the key, hands each piece over as it comes, and
+ * finishes: what one smb3seal_verify of all the pieces would answer is the answer, or what one smb3seal_sign would write to 48..64 is the
+ * signature. To give a message up needs no call.
+ *
+ *     struct smb3seal_sign_step step = smb3seal_sign_begin(key, sizeof key);
+ *     while (step.number == 0 && (n = recv(.., bytes, ..)) > 0) step = smb3seal_sign_piece(step.state, bytes, n);
+ *     if (step.number == 0) step = smb3seal_verify_finish(step.state);
+ *     if (step.number != 0) ..
+ *
+ * A state goes in by value and the one to go on with comes back: hand in the latest, and each once. It is the library's: a program stores
+ * it and copies it, and never looks inside. It holds the key: wipe it, and every copy, where the message has ended or is given up, as you
+ * would the key. Any bytes are a state and get an answer; one of zero bytes has no message, and so has one that a refused begin or any
+ * finish handed back: a piece is then 3, and a finish 11.
+ *
+ * After a refused piece the message goes on without that piece, and a finish is about the rest. That is not the message that the peer sent:
+ * give it up.
+ */
+
+struct smb3seal_sign_state {
+    uint8_t key[16];
+    uint8_t header[64];
+    uint8_t chain[16];
+    uint8_t buffer[16];
+    uint64_t filled;
+    uint64_t length;
+    uint64_t begun;
+};
+
+struct smb3seal_sign_step {
+    struct smb3seal_sign_state state; /* to go on with */
+    uint32_t number;                  /* SMB3SEAL_DONE, or why it was refused */
+    uint32_t spare;
+};
+
+/*
+ * Begins a message, to sign or to verify.
+ *
+ * key  reads: SMB3SEAL_KEY_BYTES, the session's signing key
+ *
+ * Answers 0, or 40.
+ */
+struct smb3seal_sign_step smb3seal_sign_begin(const uint8_t *key, size_t key_len);
+
+/*
+ * Takes the next bytes of the message, which stay as they are. A piece with which it would have more than SMB3SEAL_LONGEST_MESSAGE bytes
+ * is refused, and the state handed back is the one handed in.
+ *
+ * state  the one that the call before handed back
+ * piece  reads: the bytes, of any length
+ *
+ * Answers 0, or 3.
+ */
+struct smb3seal_sign_step smb3seal_sign_piece(struct smb3seal_sign_state state, const uint8_t *piece, size_t piece_len);
+
+/*
+ * Gives the signature of the message, with the signed flag taken as set: the program sets 0x00000008 among the Flags at 16..20 and puts the
+ * signature at 48..64 before it sends the message. What these bytes were in the pieces does not count. Ends the message, whatever the
+ * answer.
+ *
+ * state      the one that the call before handed back
+ * signature  writes: 16 bytes
+ *
+ * Answers 0, or 40, 11, 12.
+ */
+struct smb3seal_sign_step smb3seal_sign_finish(struct smb3seal_sign_state state, uint8_t *signature, size_t signature_len);
+
+/*
+ * Says whether the message verifies. Ends the message, whatever the answer. No byte of a message may be acted upon before it is 0.
+ *
+ * state  the one that the call before handed back
+ *
+ * Answers 0, or 11, 12, 24, 25.
+ */
+struct smb3seal_sign_step smb3seal_verify_finish(struct smb3seal_sign_state state);
 
 /*
  * ---- the connection

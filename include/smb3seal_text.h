@@ -38,7 +38,7 @@ static inline const char *smb3seal_text(uint32_t number)
     case SMB3SEAL_BAD_SIGNATURE: return "the signature differs";
     case SMB3SEAL_DIRTY_NONCE: return "the nonce does not end in zeros";
     case SMB3SEAL_UNREADABLE: return "the trace cannot be read here, or would not be, or its room is full";
-    case SMB3SEAL_BAD_LENGTH: return "a lent key, chain value or place for keys has the wrong length";
+    case SMB3SEAL_BAD_LENGTH: return "a lent key, chain value, place for keys or place for a signature has the wrong length";
     default: return "unknown number";
     }
 }

@@ -6,7 +6,8 @@ SHARED = check openssl_aead model call messages generate guard table_model table
 KEY_TESTS = vectors_test numbers_test lengths_test walk_test bits_test random_test guard_test
 TABLE_TESTS = table_calls_test table_numbers_test table_test table_guard_test
 TRACE_TESTS = trace_test rescue_test
-LIBRARY_TESTS = $(KEY_TESTS) sign_test $(TABLE_TESTS) $(TRACE_TESTS)
+PIECES_TESTS = fold_pieces_test sign_pieces_test
+LIBRARY_TESTS = $(KEY_TESTS) sign_test $(PIECES_TESTS) $(TABLE_TESTS) $(TRACE_TESTS)
 
 # Each program twice: as it is, and with the sanitizers.
 $(BUILD)/plain/%.o: tests/%.c $(TEST_HEADERS)
@@ -33,9 +34,10 @@ VALGRIND_CASES = 10000
 VALGRIND_LISTS = 2000
 
 # Each program once more, with a library that can be made wrong.
-EXPORTS = derive fold fold_response seal open sign verify table_find table_add table_remove table_seal table_open \
+EXPORTS = derive fold fold_response fold_begin fold_piece fold_finish fold_response_finish seal open sign verify sign_begin sign_piece \
+    sign_finish verify_finish table_find table_add table_remove table_seal table_open \
     trace_head trace_record trace_read_head trace_read trace_rescue
-WRONG = $(BUILD)/plain/mutants.o $(BUILD)/plain/sign_mutants.o $(BUILD)/plain/table_mutants.o $(BUILD)/plain/trace_mutants.o
+WRONG = $(patsubst %,$(BUILD)/plain/%.o,mutants sign_mutants fold_pieces_mutants sign_pieces_mutants table_mutants trace_mutants)
 MUTANTS = $(LIBRARY_TESTS:%=$(BUILD)/mutants/%)
 $(MUTANTS): $(BUILD)/mutants/%: $(BUILD)/plain/%.o $(SHARED:%=$(BUILD)/plain/%.o) $(WRONG) $(ARCHIVE)
 	@mkdir -p $(@D)
@@ -95,6 +97,8 @@ mutants:
 run-mutants: $(MUTANTS)
 	@scripts/mutants $(BUILD)/mutants tests/mutants.c vectors_test walk_test lengths_test bits_test guard_test numbers_test
 	@scripts/mutants $(BUILD)/mutants tests/sign_mutants.c sign_test guard_test
+	@scripts/mutants $(BUILD)/mutants tests/fold_pieces_mutants.c fold_pieces_test
+	@scripts/mutants $(BUILD)/mutants tests/sign_pieces_mutants.c sign_pieces_test
 	@scripts/mutants $(BUILD)/mutants tests/table_mutants.c table_calls_test table_guard_test table_numbers_test
 	@scripts/mutants $(BUILD)/mutants tests/trace_mutants.c trace_test rescue_test
 

@@ -25,6 +25,44 @@ pub struct Session {
     pub spare: [u8; 5],
 }
 
+#[derive(Clone, Copy)]
+#[repr(C)]
+pub struct FoldState {
+    pub hash: [u64; 8],
+    pub buffer: [u8; 128],
+    pub count: u64,
+    pub joined: u64,
+    pub head: [u8; 12],
+    pub underway: u8,
+    pub spare: [u8; 3],
+}
+
+#[repr(C)]
+pub struct FoldStep {
+    pub state: FoldState,
+    pub number: u32,
+    pub folded: u32,
+}
+
+#[derive(Clone, Copy)]
+#[repr(C)]
+pub struct SignState {
+    pub key: [u8; 16],
+    pub header: [u8; 64],
+    pub chain: [u8; 16],
+    pub buffer: [u8; 16],
+    pub filled: u64,
+    pub length: u64,
+    pub begun: u64,
+}
+
+#[repr(C)]
+pub struct SignStep {
+    pub state: SignState,
+    pub number: u32,
+    pub spare: u32,
+}
+
 extern "C" {
     pub fn smb3seal_fold(
         chain: *mut u8,
@@ -39,6 +77,14 @@ extern "C" {
         message_len: usize,
         folded: *mut u32,
     ) -> u32;
+    pub fn smb3seal_fold_begin(chain: *const u8, chain_len: usize) -> FoldStep;
+    pub fn smb3seal_fold_piece(state: FoldState, piece: *const u8, piece_len: usize) -> FoldStep;
+    pub fn smb3seal_fold_finish(state: FoldState, chain: *mut u8, chain_len: usize) -> FoldStep;
+    pub fn smb3seal_fold_response_finish(
+        state: FoldState,
+        chain: *mut u8,
+        chain_len: usize,
+    ) -> FoldStep;
     pub fn smb3seal_derive(
         dialect: u16,
         material: *const u8,
@@ -161,4 +207,13 @@ extern "C" {
         message: *const u8,
         message_len: usize,
     ) -> u32;
+
+    pub fn smb3seal_sign_begin(key: *const u8, key_len: usize) -> SignStep;
+    pub fn smb3seal_sign_piece(state: SignState, piece: *const u8, piece_len: usize) -> SignStep;
+    pub fn smb3seal_sign_finish(
+        state: SignState,
+        signature: *mut u8,
+        signature_len: usize,
+    ) -> SignStep;
+    pub fn smb3seal_verify_finish(state: SignState) -> SignStep;
 }

@@ -8,6 +8,8 @@
 //! With a session [`Table`] the library keeps keys and counters and picks the right ones. Under one key ([`seal`], [`open`]) that is
 //! the caller's part; a [`Sealer`] keeps one counter.
 //!
+//! A message is folded, signed or verified whole, or as it arrives: [`FoldedPieces`], [`SignedPieces`].
+//!
 //! For support, a [`TraceWriter`] records what passes on a connection, and a [`TraceReader`] reads it.
 //!
 //! Each call answers, or refuses with the one number that says why. After a refusal every byte and every number that was lent is
@@ -45,6 +47,7 @@
 
 mod connection;
 mod ffi;
+mod pieces;
 mod refusal;
 mod sealer;
 mod signing;
@@ -52,9 +55,10 @@ mod table;
 mod trace;
 
 pub use connection::{Connection, Role};
+pub use pieces::FoldedPieces;
 pub use refusal::Refusal;
 pub use sealer::Sealer;
-pub use signing::{sign, verify};
+pub use signing::{sign, verify, SignedPieces};
 pub use table::{Login, Opened, Session, Sessions, Table};
 pub use trace::{rescue_trace, Rescued, TraceKind, TraceReader, TraceRecord, TraceWriter};
 

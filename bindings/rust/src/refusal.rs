@@ -55,7 +55,7 @@ refusals! {
     BAD_SIGNATURE = 25, "the signature differs";
     DIRTY_NONCE = 29, "the nonce does not end in zeros";
     UNREADABLE = 36, "the trace cannot be read here, or would not be, or its room is full";
-    BAD_LENGTH = 40, "a lent key, chain value or place for keys has the wrong length";
+    BAD_LENGTH = 40, "a lent key, chain value, place for keys or place for a signature has the wrong length";
 }
 
 impl Refusal {

@@ -27,3 +27,57 @@ pub fn verify(key: &Key, message: &[u8]) -> Result<(), Refusal> {
         unsafe { ffi::smb3seal_verify(key.as_ptr(), key.len(), message.as_ptr(), message.len()) };
     Refusal::check(number)
 }
+
+/// A message in clear that is signed or verified as it arrives, piece by piece, wherever the cuts fall: its end is answered as
+/// [`sign`] or [`verify`] of the joined pieces is. To give a message up is to drop it.
+///
+/// ```
+/// # fn main() -> Result<(), smb3seal::Refusal> {
+/// let mut whole = [0; 70];
+/// whole[..4].copy_from_slice(b"\xFESMB");
+/// let key = [7; 16];
+/// smb3seal::sign(&key, &mut whole)?;
+///
+/// let mut message = smb3seal::SignedPieces::begin(&key);
+/// for piece in whole.chunks(17) {
+///     message.piece(piece)?;
+/// }
+/// message.verify()?;
+/// # Ok(())
+/// # }
+/// ```
+pub struct SignedPieces(ffi::SignState);
+
+impl SignedPieces {
+    /// A message begins under the session's signing key.
+    pub fn begin(key: &Key) -> Self {
+        // SAFETY: the pointer comes from a reference that lives through the call, with its own length.
+        let step = unsafe { ffi::smb3seal_sign_begin(key.as_ptr(), key.len()) };
+        Self(step.state)
+    }
+
+    /// The next bytes, which follow those before. Refuses with [`Refusal::TOO_LONG`] a piece with which the message would pass
+    /// [`LONGEST_MESSAGE`](crate::LONGEST_MESSAGE); what is joined then goes on without it, which is not the message that was sent.
+    pub fn piece(&mut self, piece: &[u8]) -> Result<(), Refusal> {
+        // SAFETY: the pointer comes from a reference that lives through the call, with its own length; it is not written.
+        let step = unsafe { ffi::smb3seal_sign_piece(self.0, piece.as_ptr(), piece.len()) };
+        self.0 = step.state;
+        Refusal::check(step.number)
+    }
+
+    /// The signature of what is joined, with the signed flag taken as set, for bytes 48..64. Refuses with the numbers 11 and 12.
+    pub fn sign(self) -> Result<[u8; 16], Refusal> {
+        let mut signature = [0; 16];
+        // SAFETY: the pointer comes from a local that lives through the call, with its own length.
+        let step =
+            unsafe { ffi::smb3seal_sign_finish(self.0, signature.as_mut_ptr(), signature.len()) };
+        Refusal::check(step.number).map(|()| signature)
+    }
+
+    /// Whether what is joined verifies. Refuses with the numbers 11, 12, 24 and 25.
+    pub fn verify(self) -> Result<(), Refusal> {
+        // SAFETY: the state goes by value, and no pointer is lent.
+        let step = unsafe { ffi::smb3seal_verify_finish(self.0) };
+        Refusal::check(step.number)
+    }
+}

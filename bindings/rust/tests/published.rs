@@ -1,5 +1,7 @@
 //! The sessions published with sealed messages (vectors/smb3.json), through the wrapper.
-use smb3seal::{open, seal, sign, verify, Chain, Cipher, Dialect, Keys, Protection, Role};
+use smb3seal::{
+    open, seal, sign, verify, Chain, Cipher, Dialect, FoldedPieces, Keys, Protection, Role,
+};
 
 const FILE: &str = include_str!("../../../vectors/smb3.json");
 
@@ -30,6 +32,22 @@ fn parts<'a>(text: &'a str, name: &str) -> Vec<&'a str> {
         .collect()
 }
 
+/// The message as it arrives, seven bytes at a time, so that the Status is cut; one that is given up first leaves the chain.
+fn in_pieces(chain: &mut Chain, message: &[u8], response: bool) {
+    let before = chain.clone();
+    assert_eq!(FoldedPieces::begin(chain).piece(message), Ok(()));
+    assert_eq!(*chain, before);
+    let mut pieces = FoldedPieces::begin(chain);
+    for piece in message.chunks(7) {
+        assert_eq!(pieces.piece(piece), Ok(()));
+    }
+    if response {
+        assert_eq!(pieces.finish_response(), Ok(true));
+    } else {
+        assert_eq!(pieces.finish(), Ok(()));
+    }
+}
+
 fn session(name: &str, cipher: Cipher) {
     let begin = FILE.find(name).expect(name);
     let text = &FILE[begin..begin + FILE[begin..].find("\"signed_messages\"").expect(name)];
@@ -40,12 +58,16 @@ fn session(name: &str, cipher: Cipher) {
     assert_eq!(steps.len(), 5);
     for step in steps {
         let message = bytes(field(step, "message"));
-        if field(step, "kind") == "session_setup_response" {
+        let response = field(step, "kind") == "session_setup_response";
+        let mut arriving = chain.clone();
+        in_pieces(&mut arriving, &message, response);
+        if response {
             assert_eq!(chain.fold_response(&message), Ok(true));
         } else {
             assert_eq!(chain.fold(&message), Ok(()));
         }
         assert_eq!(chain.as_bytes()[..], bytes(field(step, "after")));
+        assert_eq!(arriving, chain);
     }
     assert_eq!(
         chain.fold_response(&bytes(field(text, "final_response"))),

@@ -1,7 +1,7 @@
 //! What is refused, with which number, and that a refusal changes nothing.
 use smb3seal::{
-    open, seal, sign, verify, Chain, Cipher, Dialect, Keys, Protection, Refusal, Role, Sealer,
-    HEADER_BYTES, LONGEST_MESSAGE,
+    open, seal, sign, verify, Chain, Cipher, Dialect, FoldedPieces, Keys, Protection, Refusal,
+    Role, Sealer, SignedPieces, HEADER_BYTES, LONGEST_MESSAGE,
 };
 
 const KEY: [u8; 16] = [7; 16];
@@ -125,6 +125,39 @@ fn signatures() {
     in_clear(signed, Refusal::NOT_HEADER);
 }
 
+/// The pieces of a message, taken in one after the other.
+fn pieces(message: &[u8], size: usize) -> SignedPieces {
+    let mut joined = SignedPieces::begin(&KEY);
+    for piece in message.chunks(size) {
+        assert_eq!(joined.piece(piece), Ok(()));
+    }
+    joined
+}
+
+#[test]
+fn signatures_in_pieces() {
+    let plain = plain(64)[HEADER_BYTES..].to_vec();
+    let mut signed = plain.clone();
+    assert_eq!(sign(&KEY, &mut signed), Ok(()));
+    for size in 1..=signed.len() {
+        assert_eq!(pieces(&signed, size).verify(), Ok(()));
+        assert_eq!(pieces(&plain, size).sign().unwrap(), signed[48..64]);
+        assert_eq!(pieces(&plain, size).verify(), Err(Refusal::NOT_SIGNED));
+    }
+    let short = &signed[..63];
+    assert_eq!(pieces(short, 9).verify(), Err(Refusal::INNER_TOO_SHORT));
+    assert_eq!(pieces(short, 9).sign(), Err(Refusal::INNER_TOO_SHORT));
+    let mut long = pieces(&signed, 50);
+    let rest = vec![0; LONGEST_MESSAGE];
+    assert_eq!(long.piece(&rest), Err(Refusal::TOO_LONG));
+    assert_eq!(long.verify(), Ok(()));
+    signed[63] ^= 1;
+    let changed = pieces(&signed, 20).verify();
+    assert_eq!(changed, Err(Refusal::BAD_SIGNATURE));
+    signed[0] = 0xFD;
+    assert_eq!(pieces(&signed, 3).sign(), Err(Refusal::NOT_HEADER));
+}
+
 #[test]
 fn folds_and_keys() {
     let mut chain = Chain::from_bytes([3; 64]);
@@ -213,4 +246,32 @@ fn as_in_the_headers() {
     let cases = texts.matches("case SMB3SEAL_").count();
     assert_eq!(cases, Refusal::ALL.len() + 1, "all but SMB3SEAL_DONE");
     assert_eq!(Refusal::BAD_TAG.to_string(), "9: the tag differs");
+}
+
+#[test]
+fn messages_folded_in_pieces() {
+    let whole = vec![0xFE; LONGEST_MESSAGE];
+    let mut chain = Chain::from_bytes([9; 64]);
+    let before = chain.clone();
+    for n in [0, 63] {
+        for response in [false, true] {
+            let mut message = FoldedPieces::begin(&mut chain);
+            assert_eq!(message.piece(&whole[..n]), Ok(()));
+            let refused = if response {
+                message.finish_response().map(|_| ())
+            } else {
+                message.finish()
+            };
+            assert_eq!(refused, Err(Refusal::FOLD_LENGTH));
+            assert_eq!(chain, before);
+        }
+    }
+    let mut expected = chain.clone();
+    assert_eq!(expected.fold(&whole), Ok(()));
+    let mut message = FoldedPieces::begin(&mut chain);
+    assert_eq!(message.piece(&whole[1..]), Ok(()));
+    assert_eq!(message.piece(&whole[..2]), Err(Refusal::FOLD_LENGTH));
+    assert_eq!(message.piece(&whole[..1]), Ok(()));
+    assert_eq!(message.finish(), Ok(()));
+    assert_eq!(chain, expected);
 }

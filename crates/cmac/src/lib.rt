@@ -14,6 +14,7 @@ ghost use Rattle.cmac.specs.Running.{Holds};
 
 // A code under way: the chain over the blocks before the last, and the last one, of which so many bytes are there. The round keys and the
 // table of the cipher are lent to each call.
+#[repr(C)]
 pub struct Mac {
     chain: [u8; 16],
     buffer: [u8; 16],

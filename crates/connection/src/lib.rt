@@ -1,5 +1,7 @@
 // What a connection agreed on (RULES 1 and 6). Every function above takes it by value.
 ghost use mathlib.Core.Path.{_≡_};
+ghost use Prim.Native.Nat.{_+_};
+ghost use lib.Dec.{leb};
 ghost use Rattle.protocol.specs.Connection.{knownDialect, encrypts, cipherUsed, usesGcm, longestMessage, lastCounter};
 ghost use Rattle.connection.specs.Reading.{bitOf, connectionOf, underKey};
 
@@ -23,6 +25,17 @@ pub fn longest_message() -> usize
     ensures { λ r. ⌜ r ≡ longestMessage ⌝ }
 {
     8454144
+}
+
+// A message of this length does not pass the limit with so many bytes more: 3 or 23 is not given to a piece.
+pub fn fits(length: u64, more: usize) -> bool
+    ensures { λ r. ⌜ r ≡ leb (length + more) longestMessage ⌝ }
+{
+    let longest = longest_message() as u64;
+    if longest < length {
+        return false;
+    }
+    (more as u64) <= longest - length
 }
 
 // Number 17: 2^64 - 1.

@@ -9,8 +9,10 @@ use Rattle.protocol.specs.Bytes.{Bytes}
 use Rattle.protocol.specs.Answer.{Answer, done, carried}
 use Rattle.protocol.specs.Preauth.{FoldKind, statusAllows}
 use Rattle.protocol.specs.Transform.{Primitives}
-use Rattle.protocol.specs.Calls.{Call, derivation, folding, sealingUnder, openingUnder, signingUnder, verifyingUnder, adding, removing, stepping}
+use Rattle.protocol.specs.Calls.{Call, derivation, folding, foldBeginning, foldPiece, foldFinishing, sealingUnder, openingUnder, signingUnder}
+use Rattle.protocol.specs.Calls.{verifyingUnder, adding, removing, stepping}
 use Rattle.protocol.specs.Calls.{sealing, opening, Lent, withChain, sealTests, openTests, tests, effect, answer, left}
+use Rattle.protocol.specs.Calls.{signBeginning, signPiece, signFinishing, verifyFinishing}
 use Rattle.protocol.specs.Suite.{suite}
 use Rattle.demands.specs.Lines.{None, no-line}
 use Rattle.demands.specs.Demand1.{numbersTested, order, Demand1}
@@ -22,10 +24,17 @@ module _ (P : Primitives) where
   unfolding tests sealTests openTests
   orders (derivation dialect chain material) w = refl
   orders (folding kind m) w = refl
+  orders (foldBeginning v) w = refl
+  orders (foldPiece p) w = refl
+  orders (foldFinishing kind) w = refl
   orders (sealingUnder c key id) w = refl
   orders (openingUnder c key id) w = refl
   orders (signingUnder key) w = refl
   orders (verifyingUnder key) w = refl
+  orders (signBeginning key) w = refl
+  orders (signPiece p) w = refl
+  orders (signFinishing u) w = refl
+  orders (verifyFinishing u) w = refl
   orders (adding a) w = refl
   orders (removing i) w = refl
   orders (stepping i by) w = refl

@@ -35,7 +35,8 @@ module _ (P : Primitives) (sound : Sound P) (e : Ends) (h : Premises P e) where
   -- both ends hold the same keys
   keys-alike : (record-at client) .keys ≡ (record-at server) .keys
   keys-alike =
-      let chain = same-value P (sound .hash-length) (e .chainCalls client) (e .chainCalls server) (h .same-messages) in
+      let ordered = h .in-order in
+      let chain = same-value P (sound .hash-length) (e .chainSteps client) (e .chainSteps server) (ordered client) (ordered server) (h .same-messages) in
       λ i. derivedKeys (P .kdf) 0x0311 (chain i) (h .same-key i)
 
   same-keys : (r : Role) → (record-at (other r)) .keys ≡ (record-at r) .keys

@@ -25,7 +25,7 @@ use Rattle.protocol.specs.Calls.{Lent, onlyMessage, onlyTable, messageAndTable,
 use Rattle.protocol.specs.Suite.{suite}
 use Rattle.protocol.specs.PLines.{header}
 use Rattle.protocol.specs.BreakNotices.{notice}
-use Rattle.demands.specs.Chains.{ChainCalls, Among}
+use Rattle.demands.specs.Chains.{ChainSteps, calling, EndInOrder, Among}
 use Rattle.demands.specs.Steps.{Step, onTable, tableLeft}
 use Rattle.demands.specs.Demand3.{Ends, endSeals, endOpens, sessionAdded, addedAt, Premises, Seals, by-call, LentToOpen}
 use Rattle.demands.proofs.Demand3.{demand3}
@@ -36,14 +36,14 @@ messageOf client = replicate 52 0 ++ header 0 0 5
 messageOf server = replicate 52 0 ++ notice 0 0
 
 -- the client hands an empty message to its connection's chain, which is refused with 23 and changes nothing
-abbrev callsInto : Role → ChainCalls
-callsInto client = record { connection = folding negotiateMessage [] ∷ []; session = [] }
-callsInto server = record { connection = []; session = [] }
+abbrev stepsOn : Role → ChainSteps
+stepsOn client = record { connection = calling (folding negotiateMessage []) ∷ []; session = [] }
+stepsOn server = record { connection = []; session = [] }
 
 abbrev endsWith : (Role → List Step) → Ends
 endsWith steps =
     record {
-      chainCalls = callsInto;
+      chainSteps = stepsOn;
       material = λ r. 1 ∷ 2 ∷ [];
       tableBefore = λ r. freeRecord ∷ [];
       steps = steps;
@@ -104,8 +104,12 @@ module _ (P : Primitives) where
   success client = refl
   success server = refl
 
+  in-order : (r : Role) → EndInOrder P (stepsOn r)
+  in-order client = ((λ m e k. refl, tt), tt)
+  in-order server = (tt, tt)
+
   premises : Premises P ends
-  premises = record { same-messages = refl; same-key = refl; id-fits = lit< tt; added-with-success = success; kept = kept }
+  premises = record { in-order = in-order; same-messages = refl; same-key = refl; id-fits = lit< tt; added-with-success = success; kept = kept }
 
   seal-done : (r : Role) → answer P (endSeals before r) (toSeal r) ≡ done 1
   unfolding messageOf tests effect sealTests walk littleEndian toLittleEndian sameBytes

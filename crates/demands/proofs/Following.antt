@@ -15,8 +15,10 @@ use Rattle.protocol.specs.Connection.{Connection, lastCounter}
 use Rattle.protocol.specs.SessionTable.{Session, freeRecord, withCounter, isSession, recordOf, changeRecord, hasFree, fillFree, Adding, newRecord, countUp}
 use Rattle.protocol.specs.SessionTable.{counterStep}
 use Rattle.protocol.specs.Transform.{Primitives}
-use Rattle.protocol.specs.Calls.{Call, derivation, folding, sealingUnder, openingUnder, signingUnder, verifyingUnder, adding, removing, stepping}
+use Rattle.protocol.specs.Calls.{Call, derivation, folding, foldBeginning, foldPiece, foldFinishing, sealingUnder, openingUnder, signingUnder}
+use Rattle.protocol.specs.Calls.{verifyingUnder, adding, removing, stepping}
 use Rattle.protocol.specs.Calls.{sealing, opening, Lent, withTable, sealTests, tests, effect, answer, left}
+use Rattle.protocol.specs.Calls.{signBeginning, signPiece, signFinishing, verifyFinishing}
 use Rattle.demands.specs.Chains.{Among}
 use Rattle.demands.specs.Steps.{Step, onTable, tableLeft, made}
 use Rattle.demands.proofs.Answering.{line-of, later-line-of}
@@ -162,10 +164,17 @@ module _ (P : Primitives) where
     unfolding effect
     follows (derivation dialect chain material) w h k = alone _ w refl
     follows (folding kind m) w h k = alone _ w refl
+    follows (foldBeginning v) w h k = alone _ w refl
+    follows (foldPiece p) w h k = alone _ w refl
+    follows (foldFinishing kind) w h k = alone _ w refl
     follows (sealingUnder c key id) w h k = alone _ w refl
     follows (openingUnder c key id) w h k = alone _ w refl
     follows (signingUnder key) w h k = alone _ w refl
     follows (verifyingUnder key) w h k = alone _ w refl
+    follows (signBeginning key) w h k = alone _ w refl
+    follows (signPiece p) w h k = alone _ w refl
+    follows (signFinishing u) w h k = alone _ w refl
+    follows (verifyFinishing u) w h k = alone _ w refl
     follows (adding a) w h k = if-done (adding a) w (adding-follows a w k)
     follows (removing j) w h k =
         if-done (removing j) w (λ n e. follows-self (change-other i j (λ q. h (ap removing (sym q))) (λ x. freeRecord) (λ x u. refl) (w .table)))

@@ -10,6 +10,7 @@ pub mod Signing
 pub mod Demand2
 pub mod ChainLaws
 pub mod FoldLaws
+pub mod PieceLaws
 pub mod TableLaws
 pub mod Following
 pub mod OpeningLaws
@@ -17,3 +18,5 @@ pub mod Demand3
 pub mod OtherRecords
 pub mod UnderKey
 pub mod Example
+pub mod PiecesExample
+pub mod SigningPieces

@@ -3,7 +3,7 @@
 use mathlib.Core.Path.{_≡_, refl, sym, ap, ap₂, _∙_}
 use mathlib.Core.Bool.{false, not}
 use mathlib.Core.List.{[], _∷_, _++_}
-use Prim.Native.Nat.{ℕ, zero, suc, _+_, _-_, _/_, _%_, _≤_, _<_}
+use Prim.Native.Nat.{ℕ, zero, suc, _+_, _/_, _%_, _≤_, _<_}
 use native.Mathlib.Omega.{arith}
 use borrow.Author.Tests.{ltb-false, le-ltb, eqb-true, eq-eqb, not-false}
 use lib.Bits.{bitOr, or-shr, or-mod}
@@ -26,6 +26,7 @@ use Rattle.protocol.specs.Suite.{suite, cmac}
 use Rattle.protocol.proofs.Judging.{line}
 use Rattle.protocol.proofs.SuiteLaws.{cmac-is, suite-sound}
 use Rattle.protocol.proofs.BytesLaws.{skip}
+use Rattle.protocol.proofs.SignedBytes.{flagged-length}
 use Rattle.demands.specs.Lines.{None, no-line}
 use Rattle.demands.specs.Verifying.{SignChecks, Verifies}
 use Rattle.demands.specs.Signing.{Signing}
@@ -149,13 +150,6 @@ module _ (m : Bytes) (long : 64 ≤ length m) where
   flags-length : length flags ≡ 4
   flags-length = length-toLittleEndian 4 (bitOr (numberAt 16 4 m) 8)
 
-  flagged-length : length (withSignedFlag m) ≡ length m
-  unfolding withSignedFlag
-  flagged-length =
-      let a = length-append (take 16 m) (flags ++ drop 20 m) in
-      let b = length-append flags (drop 20 m) in
-      omega (arith, l16, flags-length, length-drop 20 m)
-
   flagged-front : take 4 (withSignedFlag m) ≡ take 4 m
   unfolding withSignedFlag
   flagged-front =
@@ -184,7 +178,7 @@ module _ (s m : Bytes) (size : length s ≡ 16) (long : 64 ≤ length m) where
   unfolding withSignature
   stored-flags = same-bytes (take 48 m) (s ++ drop 64 m) (drop 48 m) 16 4 (omega (arith, l48)) ∙ ap (bytesAt 16 4) (take-append-drop 48 m)
 
-  stored-signature : bytesAt 48 16 (withSignature s m) ≡ s
+  pub stored-signature : bytesAt 48 16 (withSignature s m) ≡ s
   unfolding withSignature
   stored-signature = ap (take 16) (drop-at (take 48 m) (s ++ drop 64 m) 48 l48) ∙ take-at s (drop 64 m) 16 size
 

@@ -13,8 +13,10 @@ use Rattle.protocol.specs.InnerHeader.{Envelope}
 use Rattle.protocol.specs.Compound.{firstHeaderTests, nextHeaderTests}
 use Rattle.protocol.specs.Preauth.{FoldKind, statusAllows}
 use Rattle.protocol.specs.Transform.{Primitives}
-use Rattle.protocol.specs.Calls.{Call, derivation, folding, sealingUnder, openingUnder, signingUnder, verifyingUnder, adding, removing, stepping}
+use Rattle.protocol.specs.Calls.{Call, derivation, folding, foldBeginning, foldPiece, foldFinishing, sealingUnder, openingUnder, signingUnder}
+use Rattle.protocol.specs.Calls.{verifyingUnder, adding, removing, stepping}
 use Rattle.protocol.specs.Calls.{sealing, opening, Lent, Inner, carries, over, Tests, verdict, tests, answer, left}
+use Rattle.protocol.specs.Calls.{signBeginning, signPiece, signFinishing, verifyFinishing}
 use Rattle.demands.specs.Lines.{First, None}
 use Rattle.demands.specs.Walk.{Walked, Broken}
 
@@ -36,10 +38,17 @@ numbersTested t = numbersOf (t .before) ++ (walkNumbers (t .walked) ++ numbersOf
 abbrev pub order : Call → List ℕ
 order (derivation dialect chain material) = 40 ∷ 18 ∷ 19 ∷ []
 order (folding kind m) = 40 ∷ 23 ∷ []
+order (foldBeginning v) = 40 ∷ []
+order (foldPiece p) = 23 ∷ []
+order (foldFinishing kind) = 40 ∷ 23 ∷ []
 order (sealingUnder c key id) = 40 ∷ 1 ∷ 2 ∷ 3 ∷ 11 ∷ 12 ∷ 13 ∷ 14 ∷ 15 ∷ 16 ∷ 17 ∷ []
 order (openingUnder c key id) = 40 ∷ 1 ∷ 2 ∷ 3 ∷ 4 ∷ 5 ∷ 29 ∷ 6 ∷ 9 ∷ 10 ∷ 11 ∷ 12 ∷ 13 ∷ 14 ∷ 15 ∷ 16 ∷ []
 order (signingUnder key) = 40 ∷ 3 ∷ 11 ∷ 12 ∷ []
 order (verifyingUnder key) = 40 ∷ 3 ∷ 11 ∷ 12 ∷ 24 ∷ 25 ∷ []
+order (signBeginning key) = 40 ∷ []
+order (signPiece p) = 3 ∷ []
+order (signFinishing u) = 40 ∷ 11 ∷ 12 ∷ []
+order (verifyFinishing u) = 11 ∷ 12 ∷ 24 ∷ 25 ∷ []
 order (adding a) = 40 ∷ 18 ∷ 19 ∷ 20 ∷ 21 ∷ 22 ∷ []
 order (removing i) = 6 ∷ []
 order (stepping i by) = []

@@ -14,15 +14,15 @@ use Rattle.protocol.specs.Keys.{sessionKey}
 use Rattle.protocol.specs.SessionTable.{Session, Adding}
 use Rattle.protocol.specs.Transform.{Primitives}
 use Rattle.protocol.specs.Calls.{Call, adding, removing, sealing, opening, Lent, onlyTable, answer, left}
-use Rattle.demands.specs.Chains.{ChainCalls, endMessages, sessionChain, Among, ChainsAgree}
+use Rattle.demands.specs.Chains.{ChainSteps, endMessages, sessionChain, EndInOrder, Among, ChainsAgree}
 use Rattle.demands.specs.Steps.{Step, made, tableLeft}
 
 -- ---- the two ends
 
--- at each end the calls into the chains, the key material, the table before the add ("whatever else the table held") and the steps after
+-- at each end the steps on the chains, the key material, the table before the add ("whatever else the table held") and the steps after
 -- it; for both one id and one cipher
 pub record Ends : Type 0 where
-  pub chainCalls : Role → ChainCalls
+  pub chainSteps : Role → ChainSteps
   pub material : Role → Bytes
   pub tableBefore : Role → List Session
   pub steps : Role → List Step
@@ -46,7 +46,7 @@ module _ (P : Primitives) where
   sessionAdded e r =
       record {
         dialect = 0x0311;
-        chain = sessionChain P (e .chainCalls r);
+        chain = sessionChain P (e .chainSteps r);
         id = e .id;
         material = e .material r;
         guest = false;
@@ -61,8 +61,10 @@ module _ (P : Primitives) where
   madeAt e r = made P (tableLeft P (addedAt e r)) (e .steps r)
 
   pub record Premises (e : Ends) : Type 0 where
+    -- what request e presumes of messages in pieces
+    pub in-order : (r : Role) → EndInOrder P (e .chainSteps r)
     -- "let the messages folded in be the same"
-    pub same-messages : endMessages (e .chainCalls client) ≡ endMessages (e .chainCalls server)
+    pub same-messages : endMessages P (e .chainSteps client) ≡ endMessages P (e .chainSteps server)
     -- "the same session key"
     pub same-key : sessionKey (e .material client) ≡ sessionKey (e .material server)
     -- an id has 64 bits

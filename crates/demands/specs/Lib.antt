@@ -5,8 +5,10 @@ pub mod Opening
 pub mod Verifying
 pub mod Demand2
 pub mod Chains
+pub mod Pieces
 pub mod Steps
 pub mod Demand3
 pub mod OtherRecords
 pub mod UnderKey
 pub mod Signing
+pub mod SigningPieces

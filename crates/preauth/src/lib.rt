@@ -9,7 +9,7 @@ ghost use Prim.Native.Nat.{_≤_};
 ghost use lib.ListN.{length};
 ghost use Rattle.protocol.specs.Answer.{answerNumber, carried};
 ghost use Rattle.protocol.specs.Connection.{longestMessage};
-ghost use Rattle.protocol.specs.Preauth.{FoldKind, negotiateMessage, setupRequest, setupResponse, admitted, moreProcessing, statusAllows};
+ghost use Rattle.protocol.specs.Preauth.{FoldKind, negotiateMessage, setupRequest, setupResponse, admitsLength, admitted, moreProcessing, statusAllows};
 ghost use Rattle.protocol.specs.Calls.{folding, onlyChain};
 ghost use Rattle.protocol.specs.Contract.{Makes};
 ghost use Rattle.protocol.specs.Suite.{sha512};
@@ -47,15 +47,15 @@ pub fn folded_to(a: FoldAnswer, lent: u32) -> u32
     }
 }
 
-// 23 is not given.
-fn admits(message: &[u8]) -> bool
-    ensures { λ r. ⌜ r ≡ admitted (now (message .entry)) ⌝ }
+// 23 is not given to a message of this length.
+pub fn admits(length: u64) -> bool
+    ensures { λ r. ⌜ r ≡ admitsLength length ⌝ }
 {
-    (64 <= message.len()) & (message.len() <= connection::longest_message())
+    (64 <= length) & (length <= connection::longest_message() as u64)
 }
 
 // The status of a message that is long enough to have one.
-fn asks_for_more(message: &[u8]) -> bool
+pub fn asks_for_more(message: &[u8]) -> bool
     ensures { λ r. ⌜ (12 ≤ length (now (message .entry)) → r ≡ moreProcessing (now (message .entry))) ⌝ }
 {
     if message.len() < 12 {
@@ -80,7 +80,7 @@ fn fold_if(chain: &mut [u8], message: &[u8], allowed: bool) -> FoldAnswer
     if chain.len() != 64 {
         return FoldAnswer::Refused(40);
     }
-    if !admits(message) {
+    if !admits(message.len() as u64) {
         return FoldAnswer::Refused(23);
     }
     if !allowed {

@@ -15,12 +15,14 @@ use Rattle.protocol.specs.InnerHeader.{Envelope}
 use Rattle.protocol.specs.Compound.{walk}
 use Rattle.protocol.specs.Keys.{sessionKey, derivedKeys, keysInOrder}
 use Rattle.protocol.specs.Preauth.{FoldKind, folded, foldMark}
+use Rattle.protocol.specs.Pieces.{Underway, begunFrom, notBegun, messageOf, withPiece, finishedValue}
 use Rattle.protocol.specs.Signing.{signatureUnder, signedUnder}
+use Rattle.protocol.specs.SigningPieces.{signatureOf}
 use Rattle.protocol.specs.SessionTable.{Session, sealingKey, openingKey, recordOf, changeRecord, removeRecord, hasFree, fillFree, Adding, newRecord}
 use Rattle.protocol.specs.SessionTable.{countUp, counterStep}
 use Rattle.protocol.specs.Refusals.{notEncrypting, tooShort, tooLong, notTransform, badFlags, dirtyNonce, otherSession, constrained, guest, badTag, badSize}
-use Rattle.protocol.specs.Refusals.{counterUsedUp, unknownDialect, noKeyMaterial, idZero, idTaken, tableFull, foldLength, badLength}
-use Rattle.protocol.specs.Refusals.{innerTooShort, notHeader, notSigned, badSignature}
+use Rattle.protocol.specs.Refusals.{counterUsedUp, unknownDialect, noKeyMaterial, idZero, idTaken, tableFull, foldLength, pieceLength, badLength}
+use Rattle.protocol.specs.Refusals.{pieceTooLong, innerTooShort, notHeader, notSigned, badSignature}
 use Rattle.protocol.specs.Transform.{Primitives, sealedUnder, plaintextUnder, openedTo}
 
 -- ---- the calls, each with all that it only reads
@@ -29,12 +31,21 @@ pub data Call : Type 0 where
   -- dialect, chain value, key material
   derivation : ℕ → Bytes → Bytes → Call
   folding : FoldKind → Bytes → Call
+  -- a message folded as it arrives: begun on a chain value, a piece of it, its finish
+  foldBeginning : Bytes → Call
+  foldPiece : Bytes → Call
+  foldFinishing : FoldKind → Call
   -- under one given key, for a session id
   sealingUnder : Connection → Bytes → ℕ → Call
   openingUnder : Connection → Bytes → ℕ → Call
   -- under one given signing key, a message in clear
   signingUnder : Bytes → Call
   verifyingUnder : Bytes → Call
+  -- the same of a message that arrives in pieces: begun under a key, a piece of it, and its end. A finish is given the state
+  signBeginning : Bytes → Call
+  signPiece : Bytes → Call
+  signFinishing : Underway → Call
+  verifyFinishing : Underway → Call
   -- with the session table
   adding : Adding → Call
   removing : ℕ → Call
@@ -43,47 +54,75 @@ pub data Call : Type 0 where
   sealing : Connection → ℕ → Call
   opening : Connection → Call
 
--- all that a call may be lent to change: "the message buffer, the table, the chain, the place for the keys and a handed-in counter"
+-- all that a call may be lent to change: "the message buffer, the table, the chain, the place for the keys and a handed-in counter"; what the
+-- state stands for that is "handed on from piece to piece"; and the place for the signature of a message in pieces
 pub record Lent : Type 0 where
   pub message : Bytes
   pub table : List Session
   pub chain : Bytes
   pub keys : Bytes
   pub counter : ℕ
+  pub underway : Underway
+  pub signature : Bytes
+
+abbrev pub nothing : Lent
+nothing = record { message = []; table = []; chain = []; keys = []; counter = 0; underway = notBegun; signature = [] }
+
+abbrev pub withMessage : Bytes → Lent → Lent
+withMessage m w =
+    record { message = m; table = w .table; chain = w .chain; keys = w .keys; counter = w .counter; underway = w .underway; signature = w .signature }
+
+abbrev pub withTable : List Session → Lent → Lent
+withTable t w =
+    record { message = w .message; table = t; chain = w .chain; keys = w .keys; counter = w .counter; underway = w .underway; signature = w .signature }
+
+abbrev pub withChain : Bytes → Lent → Lent
+withChain v w =
+    record { message = w .message; table = w .table; chain = v; keys = w .keys; counter = w .counter; underway = w .underway; signature = w .signature }
+
+abbrev pub withKeys : Bytes → Lent → Lent
+withKeys k w =
+    record { message = w .message; table = w .table; chain = w .chain; keys = k; counter = w .counter; underway = w .underway; signature = w .signature }
+
+abbrev pub withCounter : ℕ → Lent → Lent
+withCounter n w =
+    record { message = w .message; table = w .table; chain = w .chain; keys = w .keys; counter = n; underway = w .underway; signature = w .signature }
+
+abbrev pub withUnderway : Underway → Lent → Lent
+withUnderway u w =
+    record { message = w .message; table = w .table; chain = w .chain; keys = w .keys; counter = w .counter; underway = u; signature = w .signature }
+
+abbrev pub withSignaturePlace : Bytes → Lent → Lent
+withSignaturePlace s w =
+    record { message = w .message; table = w .table; chain = w .chain; keys = w .keys; counter = w .counter; underway = w .underway; signature = s }
 
 -- what a call is lent that is lent nothing but this
 abbrev pub onlyMessage : Bytes → Lent
-onlyMessage m = record { message = m; table = []; chain = []; keys = []; counter = 0 }
+onlyMessage m = withMessage m nothing
 
 abbrev pub messageAndCounter : Bytes → ℕ → Lent
-messageAndCounter m k = record { message = m; table = []; chain = []; keys = []; counter = k }
+messageAndCounter m k = withCounter k (onlyMessage m)
 
 abbrev pub messageAndTable : Bytes → List Session → Lent
-messageAndTable m t = record { message = m; table = t; chain = []; keys = []; counter = 0 }
+messageAndTable m t = withTable t (onlyMessage m)
 
 abbrev pub onlyTable : List Session → Lent
-onlyTable t = record { message = []; table = t; chain = []; keys = []; counter = 0 }
+onlyTable t = withTable t nothing
 
 abbrev pub onlyChain : Bytes → Lent
-onlyChain v = record { message = []; table = []; chain = v; keys = []; counter = 0 }
+onlyChain v = withChain v nothing
 
 abbrev pub onlyKeys : Bytes → Lent
-onlyKeys k = record { message = []; table = []; chain = []; keys = k; counter = 0 }
+onlyKeys k = withKeys k nothing
 
-abbrev pub withMessage : Bytes → Lent → Lent
-withMessage m w = record { message = m; table = w .table; chain = w .chain; keys = w .keys; counter = w .counter }
+abbrev pub onlyUnderway : Underway → Lent
+onlyUnderway u = withUnderway u nothing
 
-abbrev pub withTable : List Session → Lent → Lent
-withTable t w = record { message = w .message; table = t; chain = w .chain; keys = w .keys; counter = w .counter }
+abbrev pub chainAndUnderway : Bytes → Underway → Lent
+chainAndUnderway v u = withUnderway u (onlyChain v)
 
-abbrev pub withChain : Bytes → Lent → Lent
-withChain v w = record { message = w .message; table = w .table; chain = v; keys = w .keys; counter = w .counter }
-
-abbrev pub withKeys : Bytes → Lent → Lent
-withKeys k w = record { message = w .message; table = w .table; chain = w .chain; keys = k; counter = w .counter }
-
-abbrev pub withCounter : ℕ → Lent → Lent
-withCounter n w = record { message = w .message; table = w .table; chain = w .chain; keys = w .keys; counter = n }
+abbrev pub onlySignature : Bytes → Lent
+onlySignature place = withSignaturePlace place nothing
 
 -- ---- what a call tests: lines of the table of numbers, the walk if there is one, lines after it
 
@@ -122,6 +161,10 @@ keyTests key = badLength (eqb (length key) 16) ∷ []
 abbrev pub chainTests : Bytes → List Test
 chainTests v = badLength (eqb (length v) 64) ∷ []
 
+-- 40, 23: every fold of the message m into the value v; "23 is tested before the status"
+abbrev pub foldTests : FoldKind → Bytes → Bytes → Tests
+foldTests kind v m = record { before = chainTests v ++ (foldLength m ∷ []); walked = carries (foldMark kind m); later = [] }
+
 -- 1 to 3: every sealing and opening of the buffer m
 abbrev pub messageTests : Connection → Bytes → List Test
 messageTests c m = notEncrypting c ∷ tooShort m ∷ tooLong (inner m) ∷ []
@@ -137,6 +180,17 @@ signTests key m = keyTests key ++ (tooLong m ∷ innerTooShort m ∷ notHeader m
 -- "Verifying .. then tests in this order: 24 .., 25", where right is the signature that the message should have
 abbrev pub verifyTests : Bytes → Bytes → Bytes → List Test
 verifyTests key m right = signTests key m ++ (notSigned m ∷ badSignature right m ∷ [])
+
+-- "finishing under 64 bytes is" 11 where a message is signed or verified; "12, 24 and 25 are answered at the finish"
+abbrev pub joinedTests : Underway → List Test
+joinedTests u = innerTooShort (u .joined) ∷ notHeader (u .joined) 0 ∷ []
+
+-- and 40 before them, of the place for the signature
+abbrev pub signFinishTests : Underway → Bytes → List Test
+signFinishTests u place = badLength (eqb (length place) 16) ∷ joinedTests u
+
+abbrev pub verifyFinishTests : Underway → Bytes → List Test
+verifyFinishTests u right = joinedTests u ++ (notSigned (u .joined) ∷ badSignature right (u .joined) ∷ [])
 
 -- 6 to 8: every sealing and opening with the table, on the record s that lookup took
 abbrev pub recordTests : Connection → Session → List Test
@@ -187,8 +241,11 @@ module _ (P : Primitives) where
   unfoldable pub tests : Call → Lent → Tests
   tests (derivation dialect chain material) w =
       lines (derivationTests dialect chain material (w .keys))
-  -- 40, 23; "23 is tested before the status"
-  tests (folding kind m) w = record { before = chainTests (w .chain) ++ (foldLength m ∷ []); walked = carries (foldMark kind m); later = [] }
+  tests (folding kind m) w = foldTests kind (w .chain) m
+  tests (foldBeginning v) w = lines (chainTests v)
+  tests (foldPiece p) w = lines (pieceLength (w .underway) p ∷ [])
+  -- "finishing under 64 bytes is 23 too"
+  tests (foldFinishing kind) w = foldTests kind (w .chain) (messageOf (w .underway))
   -- "Under one given key, 7 and 8 do not arise", and "sealing has no 6"
   tests (sealingUnder c key id) w =
       record {
@@ -206,6 +263,10 @@ module _ (P : Primitives) where
       }
   tests (signingUnder key) w = lines (signTests key (w .message))
   tests (verifyingUnder key) w = lines (verifyTests key (w .message) (signatureUnder (P .cmac) key (w .message)))
+  tests (signBeginning key) w = lines (keyTests key)
+  tests (signPiece p) w = lines (pieceTooLong (w .underway) p ∷ [])
+  tests (signFinishing u) w = lines (signFinishTests u (w .signature))
+  tests (verifyFinishing u) w = lines (verifyFinishTests u (signatureUnder (P .cmac) (u .start) (u .joined)))
   tests (adding a) w = lines (addTests a ((recordOf (a .id) (w .table)) .used) (hasFree (w .table)))
   -- "or answers 6 if there is none"
   tests (removing i) w = lines (otherSession ((recordOf i (w .table)) .used) ∷ [])
@@ -217,12 +278,20 @@ module _ (P : Primitives) where
   unfoldable pub effect : Call → Lent → Lent
   effect (derivation dialect chain material) w = withKeys (keysInOrder (derivedKeys (P .kdf) dialect chain (sessionKey material))) w
   effect (folding kind m) w = withChain (folded (P .sha512) kind (w .chain) m) w
+  effect (foldBeginning v) w = withUnderway (begunFrom v) w
+  effect (foldPiece p) w = withUnderway (withPiece p (w .underway)) w
+  -- the state that it is handed is used up: what it hands back is `notBegun`, whatever it answers
+  effect (foldFinishing kind) w = withChain (finishedValue (P .sha512) kind (w .chain) (w .underway)) w
   effect (sealingUnder c key id) w =
       withCounter (w .counter + 1) (withMessage (sealedUnder (P .ciphers) (cipherUsed c) key (w .counter) id (inner (w .message))) w)
   effect (openingUnder c key id) w = withMessage (openedTo (w .message) (plaintextUnder (P .ciphers) (cipherUsed c) key (w .message))) w
   effect (signingUnder key) w = withMessage (signedUnder (P .cmac) key (w .message)) w
   -- it "changes no byte"
   effect (verifyingUnder key) w = w
+  effect (signBeginning key) w = withUnderway (begunFrom key) w
+  effect (signPiece p) w = withUnderway (withPiece p (w .underway)) w
+  effect (signFinishing u) w = withSignaturePlace (signatureOf (P .cmac) u) w
+  effect (verifyFinishing u) w = w
   effect (adding a) w = withTable (fillFree (newRecord (P .kdf) a) (w .table)) w
   effect (removing i) w = withTable (removeRecord i (w .table)) w
   effect (stepping i by) w = withTable (changeRecord (counterStep by) i (w .table)) w

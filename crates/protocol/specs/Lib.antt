@@ -5,7 +5,9 @@ pub mod TransformHeader
 pub mod InnerHeader
 pub mod Keys
 pub mod Preauth
+pub mod Pieces
 pub mod Signing
+pub mod SigningPieces
 pub mod SessionTable
 pub mod Refusals
 pub mod Compound

@@ -14,6 +14,7 @@ use Rattle.protocol.specs.Connection.{Connection, knownDialect, encrypts
 use Rattle.protocol.specs.TransformHeader.{TransformHeader}
 use Rattle.protocol.specs.InnerHeader.{isInnerHeader, isRelated, Envelope, belongs}
 use Rattle.protocol.specs.Preauth.{admitted}
+use Rattle.protocol.specs.Pieces.{Underway, pieceFits}
 use Rattle.protocol.specs.Signing.{isSigned, signatureField}
 use Rattle.protocol.specs.SessionTable.{Session}
 
@@ -28,6 +29,10 @@ tooShort m = refuse 2 when leb (length m) 52
 -- "more than 8,454,144 bytes after the transform header", which are p; signing and verifying: "over the message's length", all of it
 abbrev pub tooLong : Bytes → Test
 tooLong p = refuse 3 when ltb longestMessage (length p)
+
+-- "A piece that would pass the length limit is" 3 where it is signed or verified
+abbrev pub pieceTooLong : Underway → Bytes → Test
+pieceTooLong u p = refuse 3 when not (pieceFits u p)
 
 -- "first four bytes not FD 53 4D 42"
 abbrev pub notTransform : TransformHeader → Test
@@ -114,6 +119,10 @@ tableFull room = refuse 22 when not room
 abbrev pub foldLength : Bytes → Test
 foldLength m = refuse 23 when not (admitted m)
 
+-- "A piece that would pass the length limit is 23"
+abbrev pub pieceLength : Underway → Bytes → Test
+pieceLength u p = refuse 23 when not (pieceFits u p)
+
 -- "the signed flag is missing"
 abbrev pub notSigned : Bytes → Test
 notSigned m = refuse 24 when not (isSigned m)
@@ -123,6 +132,6 @@ abbrev pub badSignature : Bytes → Bytes → Test
 badSignature right m = refuse 25 when not (sameBytes (signatureField m) right)
 
 -- "a lent cipher or signing key (not key material) is not 16, a lent chain value not 64 (on every dialect), or the place for the four keys
--- not 64 bytes long": whether all that is lent has its length
+-- not 64 bytes long"; and, our answer, the place for the signature of a message in pieces not 16: whether all that is lent has its length
 abbrev pub badLength : Bool → Test
 badLength fits = refuse 40 when not fits

@@ -17,7 +17,9 @@ use Rattle.protocol.specs.Compound.{walk}
 use Rattle.protocol.specs.Refusals.{otherSession, counterUsedUp}
 use Rattle.protocol.specs.SessionTable as protocol
 use Rattle.protocol.specs.Transform.{openedTo}
-use Rattle.protocol.specs.Calls.{Call, derivation, folding, sealingUnder, openingUnder, signingUnder, verifyingUnder, adding, removing, stepping, sealing, opening}
+use Rattle.protocol.specs.Calls.{Call, derivation, folding, foldBeginning, foldPiece, foldFinishing, sealingUnder, openingUnder, signingUnder, verifyingUnder}
+use Rattle.protocol.specs.Calls.{adding, removing, stepping, sealing, opening}
+use Rattle.protocol.specs.Calls.{signBeginning, signPiece, signFinishing, verifyFinishing}
 use Rattle.protocol.specs.Calls.{Lent, lines}
 use Rattle.protocol.specs.Calls.{sentBy, onlyTable, messageAndTable, messageTests, recordTests, addTests, sealTests, sealedWith, openTests, plaintext, verdict}
 use Rattle.protocol.specs.Calls.{tests, effect, answer, left}
@@ -68,10 +70,17 @@ reads-changed (sealing c id) m t = sym (changes protocol.countUp id t _ refl)
 reads-changed (opening c) m t = refl
 reads-changed (derivation dialect chain material) m t = refl
 reads-changed (folding kind v) m t = refl
+reads-changed (foldBeginning v) m t = refl
+reads-changed (foldPiece p) m t = refl
+reads-changed (foldFinishing kind) m t = refl
 reads-changed (sealingUnder c key id) m t = refl
 reads-changed (openingUnder c key id) m t = refl
 reads-changed (signingUnder key) m t = refl
 reads-changed (verifyingUnder key) m t = refl
+reads-changed (signBeginning key) m t = refl
+reads-changed (signPiece p) m t = refl
+reads-changed (signFinishing u) m t = refl
+reads-changed (verifyFinishing u) m t = refl
 
 leaves-table : (c : Call) (m : Bytes) (t t′ : List Session) → Exactly c (messageAndTable m (tableOf t)) t t′
     → tableOf t′ ≡ whenDone (answer suite c (messageAndTable m (tableOf t))) (λ n. (effect suite c (messageAndTable m (tableOf t))) .table) (tableOf t)

@@ -5,7 +5,9 @@ use mathlib.Core.List.{List}
 use Prim.Native.Nat.{_+_}
 use Rattle.protocol.specs.Answer.{whenDone}
 use Rattle.protocol.specs.SessionTable.{newRecord}
-use Rattle.protocol.specs.Calls.{Call, derivation, folding, sealingUnder, openingUnder, signingUnder, verifyingUnder, adding, removing, stepping, sealing, opening, Lent, answer}
+use Rattle.protocol.specs.Calls.{Call, derivation, folding, foldBeginning, foldPiece, foldFinishing, sealingUnder, openingUnder, signingUnder, verifyingUnder}
+use Rattle.protocol.specs.Calls.{adding, removing, stepping, sealing, opening, Lent, answer}
+use Rattle.protocol.specs.Calls.{signBeginning, signPiece, signFinishing, verifyFinishing}
 use Rattle.protocol.specs.Suite.{suite, kdf}
 use Rattle.session_record.specs.declared.Session.{Session}
 use Rattle.session_record.specs.Reading.{free, stored, withCounter, stepped}
@@ -24,10 +26,17 @@ changed (sealing c id) t = putAt (placeOf id t) (countedUp (recordAt (placeOf id
 changed (opening c) t = t
 changed (derivation dialect chain material) t = t
 changed (folding kind m) t = t
+changed (foldBeginning v) t = t
+changed (foldPiece p) t = t
+changed (foldFinishing kind) t = t
 changed (sealingUnder c key id) t = t
 changed (openingUnder c key id) t = t
 changed (signingUnder key) t = t
 changed (verifyingUnder key) t = t
+changed (signBeginning key) t = t
+changed (signPiece p) t = t
+changed (signFinishing u) t = t
+changed (verifyFinishing u) t = t
 
 -- and in every other case nothing: t is lent, t′ is left
 abbrev pub Exactly : Call → Lent → List Session → List Session → Type 0

@@ -18,6 +18,7 @@ ghost use Rattle.sha2.specs.Sha512.{sha512};
 ghost use Rattle.sha512.specs.Code.{Holds};
 
 // A hash under way: the hash value after the whole blocks, the bytes past them, and how many bytes there were, modulo 2^64.
+#[repr(C)]
 pub struct Sha512 {
     hash: [u64; 8],
     buffer: [u8; 128],

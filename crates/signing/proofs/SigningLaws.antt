@@ -7,7 +7,7 @@ use Prim.Native.Nat.{ℕ, _+_, _≤_}
 use borrow.Author.Tests.{eqb-true, not-false, ltb-false}
 use lib.Dec.{eqb, ltb}
 use lib.ListN.{length, take, drop, replicate}
-use lib.Seq.{paste, take-length, take-all}
+use lib.Seq.{paste, take-all}
 use native.Mathlib.Nat.{le-of-eq}
 use Rattle.octets.specs.Numbers.{bytesAt}
 use Rattle.octets.specs.Same.{sameBytes}
@@ -21,19 +21,9 @@ use Rattle.protocol.specs.Calls.{signingUnder, verifyingUnder, onlyMessage, key
 use Rattle.protocol.specs.Contract.{Returns}
 use Rattle.protocol.specs.Suite.{suite, cmac}
 use Rattle.protocol.proofs.CallLaws.{lines-return, lines-return-done, number-lines}
+use Rattle.protocol.proofs.SignedBytes.{stored-is}
 use Rattle.protocol.proofs.FirstOf.{first-stays, first-goes-on}
 use Rattle.protocol.proofs.Judging.{NoneApplies, passes, line}
-
--- 16 bytes, copied into the place of the signature
-stored-is : (s m : Bytes) → length s ≡ 16 → paste m 48 s (length s) ≡ withSignature s m
-unfolding withSignature
-stored-is s m l =
-    ap₂ (λ (x : Bytes) (k : ℕ). (take 48 m ++ x) ++ drop (48 + k) m) (take-length s) l ∙ append-assoc (take 48 m) s (drop 64 m)
-
--- the flags, copied into their place
-pub flagged-is : (flags m : Bytes) → length flags ≡ 4 → paste m 16 flags (length flags) ≡ take 16 m ++ (flags ++ drop 20 m)
-flagged-is flags m l =
-    ap₂ (λ (x : Bytes) (k : ℕ). (take 16 m ++ x) ++ drop (16 + k) m) (take-length flags) l ∙ append-assoc (take 16 m) flags (drop 20 m)
 
 -- the copy of the header that the code takes in before the rest: zeros, of which the first 48 were replaced
 pub taken-in : (m header rest : Bytes) → length (take 48 m) ≡ 48 → header ≡ paste (replicate 64 0) 0 (take 48 m) (length (take 48 m))

@@ -8,7 +8,7 @@ use lib.Bits.{bitOr}
 use lib.ListN.{take, drop}
 use Rattle.octets.specs.Numbers.{toLittleEndian}
 use Rattle.protocol.specs.Signing.{withSignedFlag}
-use Rattle.signing.proofs.SigningLaws.{flagged-is}
+use Rattle.protocol.proofs.SignedBytes.{flagged-is}
 use borrow.Author.Needs.{needs}
 use Rattle.signing.proofs.set_signed.Statement.{statement}
 use Rattle.signing.proofs.set_signed.Tie as tie

@@ -1,0 +1,37 @@
+-- Right because the first twelve bytes of a message that 23 admits are those that are kept, and they end with the status.
+-- Assumes nothing.
+use mathlib.Core.Path.{_≡_, sym, _∙_}
+use native.Mathlib.Omega.{arith}
+use denote.Ref.{now}
+use lib.ListN.{length, length-map}
+use Rattle.protocol.specs.Preauth.{setupResponse}
+use Rattle.fold_pieces.proofs.FinishLaws.{finish-any, finish-stands, status-is}
+use borrow.Author.Needs.{needs}
+use Rattle.fold_pieces.proofs.FoldState.finish_response.Statement.{statement}
+use Rattle.fold_pieces.proofs.FoldState.finish_response.Tie as tie
+
+room : (c : tie.Start) → length (c .args .self .head) ≡ 12
+room c = sym (length-map (c .args .self .head) _) ∙ c .good .0 .1 .1 .1 .1 .0 .1 .0 .1
+
+returns : tie.Need-returns
+returns c =
+    let closed = c .before .before .before in
+    let asked = closed .before .before in
+    let start = asked .before .before .before .before in
+    let s = start .args .self in
+    let v = now (start .args .chain) in
+    let allowed = asked .asks-for-more .ensures (omega (arith, room start)) in
+    let k = rw allowed at (closed .close .ensures) in
+    let f = c .finished .ensures in
+    (finish-any s _ v _ _ _ k f, λ u h. finish-stands setupResponse s _ v _ _ _ u k f h (status-is s u h (room start)))
+
+pub finish-response-spec : {M : Type 1} → statement M
+finish-response-spec =
+    tie.close
+    (tie.spec
+    (λ c. search needs)
+    (λ c κs. search needs)
+    (λ c κs. search needs)
+    (λ c κs. search needs)
+    (λ c. search needs)
+    returns)

@@ -1,0 +1,22 @@
+-- Right because the hash has taken in the chain value, and nothing is joined.
+-- Assumes nothing.
+use mathlib.Core.Path.{refl}
+use mathlib.Core.List.{[], append-nil}
+use Rattle.fold_pieces.proofs.StateLaws.{begin-refused, begin-done}
+use borrow.Author.Needs.{needs}
+use Rattle.fold_pieces.proofs.begin.Statement.{statement}
+use Rattle.fold_pieces.proofs.begin.Tie as tie
+
+returns : tie.Need-returns
+returns c = begin-refused (c .before .before .before .args .chain .now) _ (c .before .if1 .taken) (c .ended .ensures)
+
+returns-2 : tie.Need-returns-2
+returns-2 c =
+    let v = c .before .before .before .before .args .chain .now in
+    let l = c .before .before .if1 .left in
+    let h = c .update .ensures [] (c .before .new .ensures) in
+    begin-done v _ l refl (record { hashed = rw (append-nil v) h; started = l; counted = refl; headed = refl })
+
+pub begin-spec : {M : Type 1} → statement M
+begin-spec =
+    tie.close (tie.spec (λ c κs. search needs) returns (λ c κs. search needs) (λ c κs. search needs) returns-2)

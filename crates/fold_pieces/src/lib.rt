@@ -1,0 +1,172 @@
+// A message folded as it arrives (RULES 8): the running hash is handed on from piece to piece.
+use preauth::FoldAnswer;
+use runs::copy;
+use sha512::Sha512;
+ghost use mathlib.Core.Path.{_≡_};
+ghost use mathlib.Core.Bool.{true};
+ghost use mathlib.Core.List.{List, _++_};
+ghost use Prim.Native.Nat.{ℕ, _+_};
+ghost use lib.ListN.{length, take};
+ghost use Rattle.protocol.specs.Preauth.{negotiateMessage, setupRequest, setupResponse, moreProcessing};
+ghost use Rattle.protocol.specs.Pieces.{Underway, notBegun};
+ghost use Rattle.protocol.specs.Calls.{foldBeginning, foldPiece};
+ghost use Rattle.preauth.specs.Reading.{foldAnswerOf};
+ghost use Rattle.fold_pieces.specs.State.{StandsFor};
+ghost use Rattle.fold_pieces.specs.Contracts.{HandsOn, AnyPiece, FinishedAs, Closes, AnyFinish, Finishes};
+
+// struct smb3seal_fold_state: the hash of the value begun from and of the bytes joined so far, how many these are, and the first twelve of
+// them, which end with the status. Any bytes are a state; no message is under way where `underway` is 0.
+#[repr(C)]
+pub struct FoldState {
+    hash: Sha512,
+    joined: u64,
+    head: [u8; 12],
+    underway: u8,
+    spare: [u8; 3],
+}
+
+// struct smb3seal_fold_step: the state handed back, the number of RULES 2, and the mark of a finish: 1 folded, 0 not folded.
+#[repr(C)]
+pub struct FoldStep {
+    pub state: FoldState,
+    pub number: u32,
+    pub folded: u32,
+}
+
+// No message under way.
+fn ended() -> FoldState
+    ensures { λ r. ⌜ StandsFor r notBegun ⌝ }
+{
+    FoldState {
+        hash: Sha512::new(),
+        joined: 0,
+        head: [0u8; 12],
+        underway: 0,
+        spare: [0u8; 3],
+    }
+}
+
+// A message begins from the chain value.
+pub fn begin(chain: &[u8]) -> FoldStep
+    ensures { λ r. ⌜ HandsOn (foldBeginning (now (chain .entry))) notBegun (r .number) (r .state) ⌝ }
+{
+    if chain.len() != 64 {
+        return FoldStep {
+            state: ended(),
+            number: 40,
+            folded: 0,
+        };
+    }
+    let state = FoldState {
+        hash: Sha512::new().update(chain),
+        joined: 0,
+        head: [0u8; 12],
+        underway: 1,
+        spare: [0u8; 3],
+    };
+    FoldStep {
+        state: state,
+        number: 0,
+        folded: 0,
+    }
+}
+
+// The first twelve bytes of what is joined, with the piece behind it.
+fn head_with(head: [u8; 12], joined: u64, piece: &[u8]) -> [u8; 12]
+    ensures { λ r. ⌜ ((m : List ℕ) → joined ≡ length m → take joined head ≡ take 12 m
+        → take (joined + length (now (piece .entry))) r ≡ take 12 (m ++ now (piece .entry))) ⌝ }
+{
+    if 12 <= joined {
+        return head;
+    }
+    let at = joined as usize;
+    let room = 12 - at;
+    let mut kept = head;
+    if piece.len() < room {
+        copy(&mut kept, at, piece);
+        return kept;
+    }
+    copy(&mut kept, at, &piece[..room]);
+    kept
+}
+
+impl FoldState {
+    // The piece follows what is joined, unless it would pass the limit: then the state stays as it is.
+    pub fn piece(self, piece: &[u8]) -> FoldStep
+        ensures { λ r. ⌜ AnyPiece self (now (piece .entry)) r
+            × ((u : Underway) → StandsFor self u → HandsOn (foldPiece (now (piece .entry))) u (r .number) (r .state)) ⌝ }
+    {
+        let joined = self.joined;
+        if !((self.underway != 0) & connection::fits(joined, piece.len())) {
+            return FoldStep {
+                state: self,
+                number: 23,
+                folded: 0,
+            };
+        }
+        let hash = self.hash;
+        let head = self.head;
+        let spare = self.spare;
+        let state = FoldState {
+            hash: hash.update(piece),
+            joined: joined + piece.len() as u64,
+            head: head_with(head, joined, piece),
+            underway: self.underway,
+            spare: spare,
+        };
+        FoldStep {
+            state: state,
+            number: 0,
+            folded: 0,
+        }
+    }
+
+    // One fold of what is joined, if its status allows it. The status of a message that 23 refuses counts for nothing.
+    fn close(self, chain: &mut [u8], allowed: bool) -> FoldAnswer
+        ensures { λ r. ⌜ Closes self allowed (now (chain .entry)) (foldAnswerOf r) (now (chain .exit)) ⌝ }
+    {
+        if chain.len() != 64 {
+            return FoldAnswer::Refused(40);
+        }
+        if !((self.underway != 0) & preauth::admits(self.joined)) {
+            return FoldAnswer::Refused(23);
+        }
+        if !allowed {
+            return FoldAnswer::NotFolded;
+        }
+        let hash = self.hash;
+        let value = hash.finish();
+        copy(chain, 0, &value);
+        FoldAnswer::Folded
+    }
+
+    // A negotiate message or a session setup request: always folded.
+    pub fn finish(self, chain: &mut [u8]) -> FoldStep
+        ensures { λ r. ⌜ AnyFinish self true (now (chain .entry)) r (now (chain .exit))
+            × (((u : Underway) → StandsFor self u → Finishes negotiateMessage u (now (chain .entry)) r (now (chain .exit)))
+            × ((u : Underway) → StandsFor self u → Finishes setupRequest u (now (chain .entry)) r (now (chain .exit)))) ⌝ }
+    {
+        finished(self.close(chain, true))
+    }
+
+    // A session setup response: folded only if its status, which is read from what is joined, asks for more.
+    pub fn finish_response(self, chain: &mut [u8]) -> FoldStep
+        ensures { λ r. ⌜ AnyFinish self (moreProcessing (self .head)) (now (chain .entry)) r (now (chain .exit))
+            × ((u : Underway) → StandsFor self u → Finishes setupResponse u (now (chain .entry)) r (now (chain .exit))) ⌝ }
+    {
+        let head = self.head;
+        let allowed = preauth::asks_for_more(&head);
+        finished(self.close(chain, allowed))
+    }
+}
+
+// What a finish hands back: a state with no message, whatever it answers.
+fn finished(a: FoldAnswer) -> FoldStep
+    ensures { λ r. ⌜ FinishedAs r (foldAnswerOf a) ⌝ }
+{
+    FoldStep {
+        state: ended(),
+        number: preauth::number(a),
+        folded: preauth::folded_to(a, 0),
+    }
+}
