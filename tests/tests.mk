@@ -35,7 +35,8 @@ VALGRIND_LISTS = 2000
 
 # Each program once more, with a library that can be made wrong.
 EXPORTS = derive fold fold_response fold_begin fold_piece fold_finish fold_response_finish seal open sign verify sign_begin sign_piece \
-    sign_finish verify_finish table_find table_add table_remove table_seal table_open trace_head trace_record trace_read_head trace_read trace_rescue
+    sign_finish verify_finish table_find table_add table_remove table_seal table_open \
+    trace_head trace_record trace_read_head trace_read trace_rescue
 WRONG = $(patsubst %,$(BUILD)/plain/%.o,mutants sign_mutants fold_pieces_mutants sign_pieces_mutants table_mutants trace_mutants)
 MUTANTS = $(LIBRARY_TESTS:%=$(BUILD)/mutants/%)
 $(MUTANTS): $(BUILD)/mutants/%: $(BUILD)/plain/%.o $(SHARED:%=$(BUILD)/plain/%.o) $(WRONG) $(ARCHIVE)

@@ -8,6 +8,8 @@
 //! With a session [`Table`] the library keeps keys and counters and picks the right ones. Under one key ([`seal`], [`open`]) that is
 //! the caller's part; a [`Sealer`] keeps one counter.
 //!
+//! A message is folded, signed or verified whole, or as it arrives: [`FoldedPieces`], [`SignedPieces`].
+//!
 //! For support, a [`TraceWriter`] records what passes on a connection, and a [`TraceReader`] reads it.
 //!
 //! Each call answers, or refuses with the one number that says why. After a refusal every byte and every number that was lent is
