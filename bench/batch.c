@@ -11,14 +11,15 @@ enum { LONGEST = 8388608, TOGETHER = 1048576, POOL = LONGEST + 131072, MOST = 10
 
 const struct task tasks[TASKS] = {
     AT_EACH_SIZE(CCM_SEAL), AT_EACH_SIZE(CCM_OPEN), AT_EACH_SIZE(GCM_SEAL), AT_EACH_SIZE(GCM_OPEN),
+    AT_EACH_SIZE(CCM_256_SEAL), AT_EACH_SIZE(CCM_256_OPEN), AT_EACH_SIZE(GCM_256_SEAL), AT_EACH_SIZE(GCM_256_OPEN),
     AT_EACH_SIZE(SIGN),     {DERIVE, 0},            AT_EACH_SIZE(FOLD),     AT_EACH_SIZE(SHA256),
     AT_EACH_SIZE(CTR),
 };
 
-const char *const work_names[WORKS] = {"seal CCM",    "open CCM",      "seal GCM", "open GCM", "sign (CMAC)",
-                                       "derive keys", "fold (SHA-512)", "SHA-256",  "AES-128-CTR"};
+const char *const work_names[WORKS] = {"seal CCM",     "open CCM",     "seal GCM",    "open GCM",    "seal CCM-256",   "open CCM-256", "seal GCM-256",
+                                       "open GCM-256", "sign (CMAC)", "derive keys", "fold (SHA-512)", "SHA-256",      "AES-128-CTR"};
 
-static const uint8_t key[KEY_BYTES] = {1, 2, 3}, counter_block[16] = {4, 5, 6, [15] = 1};
+static const uint8_t key[KEY_256_BYTES] = {1, 2, 3, [30] = 4}, counter_block[16] = {4, 5, 6, [15] = 1};
 static const uint8_t chain[64] = {7, 8, 9};
 static uint8_t text[LONGEST], strings[4][128];
 static struct derivation derivation = {.material = key, .chain = chain};
@@ -30,10 +31,14 @@ static size_t stride, count;
 int batch_offered(const struct peer *p, enum work work)
 {
     switch (work) {
-    case CCM_SEAL: return p->ccm_seal != NULL;
-    case CCM_OPEN: return p->ccm_open != NULL;
-    case GCM_SEAL: return p->gcm_seal != NULL;
-    case GCM_OPEN: return p->gcm_open != NULL;
+    case CCM_SEAL:
+    case CCM_256_SEAL: return p->ccm_seal != NULL;
+    case CCM_OPEN:
+    case CCM_256_OPEN: return p->ccm_open != NULL;
+    case GCM_SEAL:
+    case GCM_256_SEAL: return p->gcm_seal != NULL;
+    case GCM_OPEN:
+    case GCM_256_OPEN: return p->gcm_open != NULL;
     case SIGN: return p->sign != NULL;
     case DERIVE: return p->derive != NULL;
     case FOLD: return p->fold != NULL;
@@ -46,10 +51,14 @@ int batch_offered(const struct peer *p, enum work work)
 static int run_one(const struct peer *p, uint8_t *piece)
 {
     switch (task.work) {
-    case CCM_SEAL: return p->ccm_seal(key, piece, task.n);
-    case CCM_OPEN: return p->ccm_open(key, piece, task.n);
-    case GCM_SEAL: return p->gcm_seal(key, piece, task.n);
-    case GCM_OPEN: return p->gcm_open(key, piece, task.n);
+    case CCM_SEAL: return p->ccm_seal(key, KEY_BYTES, piece, task.n);
+    case CCM_OPEN: return p->ccm_open(key, KEY_BYTES, piece, task.n);
+    case GCM_SEAL: return p->gcm_seal(key, KEY_BYTES, piece, task.n);
+    case GCM_OPEN: return p->gcm_open(key, KEY_BYTES, piece, task.n);
+    case CCM_256_SEAL: return p->ccm_seal(key, KEY_256_BYTES, piece, task.n);
+    case CCM_256_OPEN: return p->ccm_open(key, KEY_256_BYTES, piece, task.n);
+    case GCM_256_SEAL: return p->gcm_seal(key, KEY_256_BYTES, piece, task.n);
+    case GCM_256_OPEN: return p->gcm_open(key, KEY_256_BYTES, piece, task.n);
     case SIGN: return p->sign(key, piece, task.n);
     case DERIVE: return p->derive(&derivation, piece);
     case FOLD: return p->fold(piece, text, task.n);
@@ -118,7 +127,7 @@ static void write_clear(uint8_t *m, size_t n)
 
 static int is_message(enum work work)
 {
-    return work == CCM_SEAL || work == CCM_OPEN || work == GCM_SEAL || work == GCM_OPEN;
+    return work <= GCM_256_OPEN;
 }
 
 /* Runs ours on all of `memory` and keeps the outcome in `to`. */
@@ -145,6 +154,8 @@ int batch_fill(struct task t)
     memcpy(before, memory, count * stride);
     if (t.work == CCM_OPEN) done &= keep_ours(CCM_SEAL, before);
     if (t.work == GCM_OPEN) done &= keep_ours(GCM_SEAL, before);
+    if (t.work == CCM_256_OPEN) done &= keep_ours(CCM_256_SEAL, before);
+    if (t.work == GCM_256_OPEN) done &= keep_ours(GCM_256_SEAL, before);
     return done & keep_ours(t.work, after);
 }
 

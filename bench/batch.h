@@ -7,7 +7,8 @@
 
 #include "peer.h"
 
-enum work { CCM_SEAL, CCM_OPEN, GCM_SEAL, GCM_OPEN, SIGN, DERIVE, FOLD, SHA256, CTR, WORKS };
+enum work { CCM_SEAL, CCM_OPEN, GCM_SEAL, GCM_OPEN, CCM_256_SEAL, CCM_256_OPEN, GCM_256_SEAL, GCM_256_OPEN, SIGN, DERIVE, FOLD, SHA256,
+            CTR, WORKS };
 enum { SIZES = 5, TASKS = SIZES * (WORKS - 1) + 1 };
 
 /* n: bytes of the inner message, of the signed or folded message, or of the text; 0 for the derivation, which has no length. */

@@ -1,4 +1,4 @@
-# Benchmarks: never part of the tests. `make bench` takes some three minutes where the archives are proved; its figures are in
+# Benchmarks: never part of the tests. `make bench` takes some five minutes where the archives are proved; its figures are in
 # target/c: speed.csv, speed.png, stack.csv, table.csv and pieces.csv. `make bench-docs` puts them into docs/. `make bench-table` is the
 # session table's part alone, `make bench-pieces` that of messages in pieces.
 

@@ -7,7 +7,7 @@
  * What is timed on each side:
  * - seal, open: ours is the whole call of smb3seal.h, with the tests of the arguments, the walk over the inner headers and, on
  *   sealing, the writing of the header. A peer encrypts and makes the tag, or checks the tag and decrypts, in place; the header
- *   stands there already. Both sides set the key up in each call. No peer puts the message back as it was where it refuses.
+ *   stands there already. Both sides set the key, of 16 or 32 bytes, up in each call. No peer puts the message back as it was where it refuses.
  * - derive: ours is smb3seal_derive, which builds the hashed strings. A peer is handed the four strings and makes four HMACs,
  *   each from the key's bytes.
  * - fold: ours is smb3seal_fold. A peer hashes the chain value and the message.
@@ -25,7 +25,7 @@
 
 enum { FLAGS_AT = 16, SIGNATURE_AT = 48 };
 enum { TAG_AT = 4, NONCE_AT = 20, AAD_AT = 20, TEXT_AT = 52 };
-enum { KEY_BYTES = 16, TAG_BYTES = 16, AAD_BYTES = 32, CCM_NONCE_BYTES = 11, GCM_NONCE_BYTES = 12 };
+enum { KEY_BYTES = 16, KEY_256_BYTES = 32, TAG_BYTES = 16, AAD_BYTES = 32, CCM_NONCE_BYTES = 11, GCM_NONCE_BYTES = 12 };
 
 /* The derivation of the four keys on dialect 3.1.1. */
 struct derivation {
@@ -39,10 +39,10 @@ struct peer {
     /* Makes contexts. Writes which version this is and which instructions it uses. */
     int (*prepare)(char *description, size_t room);
     /* Each of the following may be NULL: then `lacks` says in a word why. */
-    int (*ccm_seal)(const uint8_t *key, uint8_t *message, size_t n);
-    int (*ccm_open)(const uint8_t *key, uint8_t *message, size_t n);
-    int (*gcm_seal)(const uint8_t *key, uint8_t *message, size_t n);
-    int (*gcm_open)(const uint8_t *key, uint8_t *message, size_t n);
+    int (*ccm_seal)(const uint8_t *key, size_t key_len, uint8_t *message, size_t n);
+    int (*ccm_open)(const uint8_t *key, size_t key_len, uint8_t *message, size_t n);
+    int (*gcm_seal)(const uint8_t *key, size_t key_len, uint8_t *message, size_t n);
+    int (*gcm_open)(const uint8_t *key, size_t key_len, uint8_t *message, size_t n);
     int (*sign)(const uint8_t *key, uint8_t *message, size_t n);
     int (*derive)(const struct derivation *d, uint8_t *keys);
     int (*fold)(uint8_t *chain, const uint8_t *message, size_t n);

@@ -14,31 +14,31 @@ static int prepare(char *description, size_t room)
     return aes >= 0 && sha256_index >= 0;
 }
 
-static int ccm_seal(const uint8_t *key, uint8_t *m, size_t n)
+static int ccm_seal(const uint8_t *key, size_t key_len, uint8_t *m, size_t n)
 {
     unsigned long tag_bytes = TAG_BYTES;
-    return ccm_memory(aes, key, KEY_BYTES, NULL, m + NONCE_AT, CCM_NONCE_BYTES, m + AAD_AT, AAD_BYTES, m + TEXT_AT, n, m + TEXT_AT,
+    return ccm_memory(aes, key, key_len, NULL, m + NONCE_AT, CCM_NONCE_BYTES, m + AAD_AT, AAD_BYTES, m + TEXT_AT, n, m + TEXT_AT,
                       m + TAG_AT, &tag_bytes, CCM_ENCRYPT) == CRYPT_OK;
 }
 
-static int ccm_open(const uint8_t *key, uint8_t *m, size_t n)
+static int ccm_open(const uint8_t *key, size_t key_len, uint8_t *m, size_t n)
 {
     unsigned long tag_bytes = TAG_BYTES;
-    return ccm_memory(aes, key, KEY_BYTES, NULL, m + NONCE_AT, CCM_NONCE_BYTES, m + AAD_AT, AAD_BYTES, m + TEXT_AT, n, m + TEXT_AT,
+    return ccm_memory(aes, key, key_len, NULL, m + NONCE_AT, CCM_NONCE_BYTES, m + AAD_AT, AAD_BYTES, m + TEXT_AT, n, m + TEXT_AT,
                       m + TAG_AT, &tag_bytes, CCM_DECRYPT) == CRYPT_OK;
 }
 
-static int gcm_seal(const uint8_t *key, uint8_t *m, size_t n)
+static int gcm_seal(const uint8_t *key, size_t key_len, uint8_t *m, size_t n)
 {
     unsigned long tag_bytes = TAG_BYTES;
-    return gcm_memory(aes, key, KEY_BYTES, m + NONCE_AT, GCM_NONCE_BYTES, m + AAD_AT, AAD_BYTES, m + TEXT_AT, n, m + TEXT_AT,
+    return gcm_memory(aes, key, key_len, m + NONCE_AT, GCM_NONCE_BYTES, m + AAD_AT, AAD_BYTES, m + TEXT_AT, n, m + TEXT_AT,
                       m + TAG_AT, &tag_bytes, GCM_ENCRYPT) == CRYPT_OK;
 }
 
-static int gcm_open(const uint8_t *key, uint8_t *m, size_t n)
+static int gcm_open(const uint8_t *key, size_t key_len, uint8_t *m, size_t n)
 {
     unsigned long tag_bytes = TAG_BYTES;
-    return gcm_memory(aes, key, KEY_BYTES, m + NONCE_AT, GCM_NONCE_BYTES, m + AAD_AT, AAD_BYTES, m + TEXT_AT, n, m + TEXT_AT,
+    return gcm_memory(aes, key, key_len, m + NONCE_AT, GCM_NONCE_BYTES, m + AAD_AT, AAD_BYTES, m + TEXT_AT, n, m + TEXT_AT,
                       m + TAG_AT, &tag_bytes, GCM_DECRYPT) == CRYPT_OK;
 }
 

@@ -58,30 +58,30 @@ static int prepare(char *description, size_t room)
            mbedtls_aes_setkey_enc(&aes, key, 128) == 0 && questions > 0;
 }
 
-static int ccm_seal(const uint8_t *key, uint8_t *m, size_t n)
+static int ccm_seal(const uint8_t *key, size_t key_len, uint8_t *m, size_t n)
 {
-    return mbedtls_ccm_setkey(&ccm, MBEDTLS_CIPHER_ID_AES, key, 128) == 0 &&
+    return mbedtls_ccm_setkey(&ccm, MBEDTLS_CIPHER_ID_AES, key, (unsigned int)(8 * key_len)) == 0 &&
            mbedtls_ccm_encrypt_and_tag(&ccm, n, m + NONCE_AT, CCM_NONCE_BYTES, m + AAD_AT, AAD_BYTES, m + TEXT_AT, m + TEXT_AT,
                                        m + TAG_AT, TAG_BYTES) == 0;
 }
 
-static int ccm_open(const uint8_t *key, uint8_t *m, size_t n)
+static int ccm_open(const uint8_t *key, size_t key_len, uint8_t *m, size_t n)
 {
-    return mbedtls_ccm_setkey(&ccm, MBEDTLS_CIPHER_ID_AES, key, 128) == 0 &&
+    return mbedtls_ccm_setkey(&ccm, MBEDTLS_CIPHER_ID_AES, key, (unsigned int)(8 * key_len)) == 0 &&
            mbedtls_ccm_auth_decrypt(&ccm, n, m + NONCE_AT, CCM_NONCE_BYTES, m + AAD_AT, AAD_BYTES, m + TEXT_AT, m + TEXT_AT,
                                     m + TAG_AT, TAG_BYTES) == 0;
 }
 
-static int gcm_seal(const uint8_t *key, uint8_t *m, size_t n)
+static int gcm_seal(const uint8_t *key, size_t key_len, uint8_t *m, size_t n)
 {
-    return mbedtls_gcm_setkey(&gcm, MBEDTLS_CIPHER_ID_AES, key, 128) == 0 &&
+    return mbedtls_gcm_setkey(&gcm, MBEDTLS_CIPHER_ID_AES, key, (unsigned int)(8 * key_len)) == 0 &&
            mbedtls_gcm_crypt_and_tag(&gcm, MBEDTLS_GCM_ENCRYPT, n, m + NONCE_AT, GCM_NONCE_BYTES, m + AAD_AT, AAD_BYTES,
                                      m + TEXT_AT, m + TEXT_AT, TAG_BYTES, m + TAG_AT) == 0;
 }
 
-static int gcm_open(const uint8_t *key, uint8_t *m, size_t n)
+static int gcm_open(const uint8_t *key, size_t key_len, uint8_t *m, size_t n)
 {
-    return mbedtls_gcm_setkey(&gcm, MBEDTLS_CIPHER_ID_AES, key, 128) == 0 &&
+    return mbedtls_gcm_setkey(&gcm, MBEDTLS_CIPHER_ID_AES, key, (unsigned int)(8 * key_len)) == 0 &&
            mbedtls_gcm_auth_decrypt(&gcm, n, m + NONCE_AT, GCM_NONCE_BYTES, m + AAD_AT, AAD_BYTES, m + TAG_AT, TAG_BYTES,
                                     m + TEXT_AT, m + TEXT_AT) == 0;
 }

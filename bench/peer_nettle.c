@@ -21,55 +21,75 @@ static int prepare(char *description, size_t room)
     return 1;
 }
 
-static void ccm_begin(struct ccm_aes128_ctx *c, const uint8_t *key, const uint8_t *m, size_t n)
-{
-    ccm_aes128_set_key(c, key);
-    ccm_aes128_set_nonce(c, CCM_NONCE_BYTES, m + NONCE_AT, AAD_BYTES, n, TAG_BYTES);
-    ccm_aes128_update(c, AAD_BYTES, m + AAD_AT);
-}
+/* CCM and GCM with keys of this many bits, which nettle has by functions of their own. */
+#define CIPHERS_OF(bits) \
+    static void ccm_begin_##bits(struct ccm_aes##bits##_ctx *c, const uint8_t *key, const uint8_t *m, size_t n) \
+    { \
+        ccm_aes##bits##_set_key(c, key); \
+        ccm_aes##bits##_set_nonce(c, CCM_NONCE_BYTES, m + NONCE_AT, AAD_BYTES, n, TAG_BYTES); \
+        ccm_aes##bits##_update(c, AAD_BYTES, m + AAD_AT); \
+    } \
+    static void ccm_seal_##bits(const uint8_t *key, uint8_t *m, size_t n) \
+    { \
+        struct ccm_aes##bits##_ctx c; \
+        ccm_begin_##bits(&c, key, m, n); \
+        ccm_aes##bits##_encrypt(&c, n, m + TEXT_AT, m + TEXT_AT); \
+        ccm_aes##bits##_digest(&c, TAG_BYTES, m + TAG_AT); \
+    } \
+    static void ccm_open_##bits(const uint8_t *key, uint8_t *m, size_t n, uint8_t *tag) \
+    { \
+        struct ccm_aes##bits##_ctx c; \
+        ccm_begin_##bits(&c, key, m, n); \
+        ccm_aes##bits##_decrypt(&c, n, m + TEXT_AT, m + TEXT_AT); \
+        ccm_aes##bits##_digest(&c, TAG_BYTES, tag); \
+    } \
+    static void gcm_begin_##bits(struct gcm_aes##bits##_ctx *c, const uint8_t *key, const uint8_t *m) \
+    { \
+        gcm_aes##bits##_set_key(c, key); \
+        gcm_aes##bits##_set_iv(c, GCM_NONCE_BYTES, m + NONCE_AT); \
+        gcm_aes##bits##_update(c, AAD_BYTES, m + AAD_AT); \
+    } \
+    static void gcm_seal_##bits(const uint8_t *key, uint8_t *m, size_t n) \
+    { \
+        struct gcm_aes##bits##_ctx c; \
+        gcm_begin_##bits(&c, key, m); \
+        gcm_aes##bits##_encrypt(&c, n, m + TEXT_AT, m + TEXT_AT); \
+        gcm_aes##bits##_digest(&c, TAG_BYTES, m + TAG_AT); \
+    } \
+    static void gcm_open_##bits(const uint8_t *key, uint8_t *m, size_t n, uint8_t *tag) \
+    { \
+        struct gcm_aes##bits##_ctx c; \
+        gcm_begin_##bits(&c, key, m); \
+        gcm_aes##bits##_decrypt(&c, n, m + TEXT_AT, m + TEXT_AT); \
+        gcm_aes##bits##_digest(&c, TAG_BYTES, tag); \
+    }
 
-static int ccm_seal(const uint8_t *key, uint8_t *m, size_t n)
+CIPHERS_OF(128)
+CIPHERS_OF(256)
+
+static int ccm_seal(const uint8_t *key, size_t key_len, uint8_t *m, size_t n)
 {
-    struct ccm_aes128_ctx c;
-    ccm_begin(&c, key, m, n);
-    ccm_aes128_encrypt(&c, n, m + TEXT_AT, m + TEXT_AT);
-    ccm_aes128_digest(&c, TAG_BYTES, m + TAG_AT);
+    (key_len == KEY_256_BYTES ? ccm_seal_256 : ccm_seal_128)(key, m, n);
     return 1;
 }
 
-static int ccm_open(const uint8_t *key, uint8_t *m, size_t n)
+static int ccm_open(const uint8_t *key, size_t key_len, uint8_t *m, size_t n)
 {
-    struct ccm_aes128_ctx c;
     uint8_t tag[TAG_BYTES];
-    ccm_begin(&c, key, m, n);
-    ccm_aes128_decrypt(&c, n, m + TEXT_AT, m + TEXT_AT);
-    ccm_aes128_digest(&c, TAG_BYTES, tag);
+    (key_len == KEY_256_BYTES ? ccm_open_256 : ccm_open_128)(key, m, n, tag);
     return memeql_sec(tag, m + TAG_AT, TAG_BYTES);
 }
 
-static void gcm_begin(struct gcm_aes128_ctx *c, const uint8_t *key, const uint8_t *m)
+static int gcm_seal(const uint8_t *key, size_t key_len, uint8_t *m, size_t n)
 {
-    gcm_aes128_set_key(c, key);
-    gcm_aes128_set_iv(c, GCM_NONCE_BYTES, m + NONCE_AT);
-    gcm_aes128_update(c, AAD_BYTES, m + AAD_AT);
-}
-
-static int gcm_seal(const uint8_t *key, uint8_t *m, size_t n)
-{
-    struct gcm_aes128_ctx c;
-    gcm_begin(&c, key, m);
-    gcm_aes128_encrypt(&c, n, m + TEXT_AT, m + TEXT_AT);
-    gcm_aes128_digest(&c, TAG_BYTES, m + TAG_AT);
+    (key_len == KEY_256_BYTES ? gcm_seal_256 : gcm_seal_128)(key, m, n);
     return 1;
 }
 
-static int gcm_open(const uint8_t *key, uint8_t *m, size_t n)
+static int gcm_open(const uint8_t *key, size_t key_len, uint8_t *m, size_t n)
 {
-    struct gcm_aes128_ctx c;
     uint8_t tag[TAG_BYTES];
-    gcm_begin(&c, key, m);
-    gcm_aes128_decrypt(&c, n, m + TEXT_AT, m + TEXT_AT);
-    gcm_aes128_digest(&c, TAG_BYTES, tag);
+    (key_len == KEY_256_BYTES ? gcm_open_256 : gcm_open_128)(key, m, n, tag);
     return memeql_sec(tag, m + TAG_AT, TAG_BYTES);
 }
 

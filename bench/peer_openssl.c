@@ -8,7 +8,9 @@
 
 #include "peer.h"
 
-static EVP_CIPHER_CTX *ccm_sealing, *ccm_opening, *gcm, *counter;
+/* By key size: of 16 bytes, of 32. */
+enum { SIZES_OF_KEYS = 2 };
+static EVP_CIPHER_CTX *ccm_sealing[SIZES_OF_KEYS], *ccm_opening[SIZES_OF_KEYS], *gcms[SIZES_OF_KEYS], *counter;
 static EVP_MAC_CTX *hmac, *cmac;
 static EVP_MD_CTX *hash;
 static EVP_MD *sha256_md, *sha512_md;
@@ -32,27 +34,32 @@ static EVP_MAC_CTX *mac_context(const char *name, const char *parameter, char *v
     return c != NULL && EVP_MAC_CTX_set_params(c, params) == 1 ? c : NULL;
 }
 
+static int prepare_ciphers(int size, const char *ccm, const char *gcm)
+{
+    ccm_sealing[size] = cipher_context(ccm, 1, CCM_NONCE_BYTES);
+    ccm_opening[size] = cipher_context(ccm, 0, CCM_NONCE_BYTES);
+    gcms[size] = cipher_context(gcm, 1, GCM_NONCE_BYTES);
+    return ccm_sealing[size] != NULL && ccm_opening[size] != NULL && gcms[size] != NULL &&
+           EVP_CIPHER_CTX_ctrl(ccm_sealing[size], EVP_CTRL_AEAD_SET_TAG, TAG_BYTES, NULL) == 1;
+}
+
 static int prepare(char *description, size_t room)
 {
     static char digest[] = "SHA2-256", cipher[] = "AES-128-CBC";
     snprintf(description, room, "OpenSSL %s, %s", OpenSSL_version(OPENSSL_VERSION_STRING), OPENSSL_info(OPENSSL_INFO_CPU_SETTINGS));
-    ccm_sealing = cipher_context("AES-128-CCM", 1, CCM_NONCE_BYTES);
-    ccm_opening = cipher_context("AES-128-CCM", 0, CCM_NONCE_BYTES);
-    gcm = cipher_context("AES-128-GCM", 1, GCM_NONCE_BYTES);
     counter = cipher_context("AES-128-CTR", 1, 0);
     hmac = mac_context("HMAC", OSSL_MAC_PARAM_DIGEST, digest);
     cmac = mac_context("CMAC", OSSL_MAC_PARAM_CIPHER, cipher);
     hash = EVP_MD_CTX_new();
     sha256_md = EVP_MD_fetch(NULL, "SHA2-256", NULL);
     sha512_md = EVP_MD_fetch(NULL, "SHA2-512", NULL);
-    return ccm_sealing != NULL && ccm_opening != NULL && gcm != NULL && counter != NULL && hmac != NULL && cmac != NULL && hash != NULL &&
-           sha256_md != NULL && sha512_md != NULL &&
-           EVP_CIPHER_CTX_ctrl(ccm_sealing, EVP_CTRL_AEAD_SET_TAG, TAG_BYTES, NULL) == 1;
+    return prepare_ciphers(0, "AES-128-CCM", "AES-128-GCM") && prepare_ciphers(1, "AES-256-CCM", "AES-256-GCM") && counter != NULL &&
+           hmac != NULL && cmac != NULL && hash != NULL && sha256_md != NULL && sha512_md != NULL;
 }
 
-static int ccm_seal(const uint8_t *key, uint8_t *m, size_t n)
+static int ccm_seal(const uint8_t *key, size_t key_len, uint8_t *m, size_t n)
 {
-    EVP_CIPHER_CTX *c = ccm_sealing;
+    EVP_CIPHER_CTX *c = ccm_sealing[key_len == KEY_256_BYTES];
     int out;
     return EVP_EncryptInit_ex2(c, NULL, key, m + NONCE_AT, NULL) == 1 && EVP_EncryptUpdate(c, NULL, &out, NULL, (int)n) == 1 &&
            EVP_EncryptUpdate(c, NULL, &out, m + AAD_AT, AAD_BYTES) == 1 &&
@@ -60,9 +67,9 @@ static int ccm_seal(const uint8_t *key, uint8_t *m, size_t n)
            EVP_CIPHER_CTX_ctrl(c, EVP_CTRL_AEAD_GET_TAG, TAG_BYTES, m + TAG_AT) == 1;
 }
 
-static int ccm_open(const uint8_t *key, uint8_t *m, size_t n)
+static int ccm_open(const uint8_t *key, size_t key_len, uint8_t *m, size_t n)
 {
-    EVP_CIPHER_CTX *c = ccm_opening;
+    EVP_CIPHER_CTX *c = ccm_opening[key_len == KEY_256_BYTES];
     int out;
     return EVP_CIPHER_CTX_ctrl(c, EVP_CTRL_AEAD_SET_TAG, TAG_BYTES, m + TAG_AT) == 1 &&
            EVP_DecryptInit_ex2(c, NULL, key, m + NONCE_AT, NULL) == 1 && EVP_DecryptUpdate(c, NULL, &out, NULL, (int)n) == 1 &&
@@ -70,22 +77,24 @@ static int ccm_open(const uint8_t *key, uint8_t *m, size_t n)
            EVP_DecryptUpdate(c, m + TEXT_AT, &out, m + TEXT_AT, (int)n) == 1;
 }
 
-static int gcm_seal(const uint8_t *key, uint8_t *m, size_t n)
+static int gcm_seal(const uint8_t *key, size_t key_len, uint8_t *m, size_t n)
 {
+    EVP_CIPHER_CTX *c = gcms[key_len == KEY_256_BYTES];
     int out;
-    return EVP_EncryptInit_ex2(gcm, NULL, key, m + NONCE_AT, NULL) == 1 &&
-           EVP_EncryptUpdate(gcm, NULL, &out, m + AAD_AT, AAD_BYTES) == 1 &&
-           EVP_EncryptUpdate(gcm, m + TEXT_AT, &out, m + TEXT_AT, (int)n) == 1 && EVP_EncryptFinal_ex(gcm, NULL, &out) == 1 &&
-           EVP_CIPHER_CTX_ctrl(gcm, EVP_CTRL_AEAD_GET_TAG, TAG_BYTES, m + TAG_AT) == 1;
+    return EVP_EncryptInit_ex2(c, NULL, key, m + NONCE_AT, NULL) == 1 &&
+           EVP_EncryptUpdate(c, NULL, &out, m + AAD_AT, AAD_BYTES) == 1 &&
+           EVP_EncryptUpdate(c, m + TEXT_AT, &out, m + TEXT_AT, (int)n) == 1 && EVP_EncryptFinal_ex(c, NULL, &out) == 1 &&
+           EVP_CIPHER_CTX_ctrl(c, EVP_CTRL_AEAD_GET_TAG, TAG_BYTES, m + TAG_AT) == 1;
 }
 
-static int gcm_open(const uint8_t *key, uint8_t *m, size_t n)
+static int gcm_open(const uint8_t *key, size_t key_len, uint8_t *m, size_t n)
 {
+    EVP_CIPHER_CTX *c = gcms[key_len == KEY_256_BYTES];
     int out;
-    return EVP_DecryptInit_ex2(gcm, NULL, key, m + NONCE_AT, NULL) == 1 &&
-           EVP_CIPHER_CTX_ctrl(gcm, EVP_CTRL_AEAD_SET_TAG, TAG_BYTES, m + TAG_AT) == 1 &&
-           EVP_DecryptUpdate(gcm, NULL, &out, m + AAD_AT, AAD_BYTES) == 1 &&
-           EVP_DecryptUpdate(gcm, m + TEXT_AT, &out, m + TEXT_AT, (int)n) == 1 && EVP_DecryptFinal_ex(gcm, NULL, &out) == 1;
+    return EVP_DecryptInit_ex2(c, NULL, key, m + NONCE_AT, NULL) == 1 &&
+           EVP_CIPHER_CTX_ctrl(c, EVP_CTRL_AEAD_SET_TAG, TAG_BYTES, m + TAG_AT) == 1 &&
+           EVP_DecryptUpdate(c, NULL, &out, m + AAD_AT, AAD_BYTES) == 1 &&
+           EVP_DecryptUpdate(c, m + TEXT_AT, &out, m + TEXT_AT, (int)n) == 1 && EVP_DecryptFinal_ex(c, NULL, &out) == 1;
 }
 
 static int sign(const uint8_t *key, uint8_t *m, size_t n)

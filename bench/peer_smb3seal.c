@@ -22,38 +22,44 @@ static uint64_t number_at(const uint8_t *p)
     return x;
 }
 
-static int seal(uint16_t cipher, const uint8_t *key, uint8_t *m, size_t n)
+/* The cipher of this mode with keys of this size. */
+static uint16_t sized(uint16_t cipher, size_t key_len)
+{
+    return key_len == KEY_256_BYTES ? (uint16_t)(cipher + SMB3SEAL_CIPHER_AES_256_CCM - SMB3SEAL_CIPHER_AES_128_CCM) : cipher;
+}
+
+static int seal(uint16_t cipher, const uint8_t *key, size_t key_len, uint8_t *m, size_t n)
 {
     uint64_t counter = number_at(m + NONCE_AT), headers;
-    return smb3seal_seal(SMB3SEAL_CLIENT, SMB3SEAL_DIALECT_311, 1, cipher, key, KEY_BYTES, number_at(m + SESSION_AT), &counter, m,
+    return smb3seal_seal(SMB3SEAL_CLIENT, SMB3SEAL_DIALECT_311, 1, sized(cipher, key_len), key, key_len, number_at(m + SESSION_AT),
+                         &counter, m, TEXT_AT + n, &headers) == SMB3SEAL_DONE;
+}
+
+static int open(uint16_t cipher, const uint8_t *key, size_t key_len, uint8_t *m, size_t n)
+{
+    uint64_t headers;
+    return smb3seal_open(SMB3SEAL_SERVER, SMB3SEAL_DIALECT_311, 1, sized(cipher, key_len), key, key_len, number_at(m + SESSION_AT), m,
                          TEXT_AT + n, &headers) == SMB3SEAL_DONE;
 }
 
-static int open(uint16_t cipher, const uint8_t *key, uint8_t *m, size_t n)
+static int ccm_seal(const uint8_t *key, size_t key_len, uint8_t *m, size_t n)
 {
-    uint64_t headers;
-    return smb3seal_open(SMB3SEAL_SERVER, SMB3SEAL_DIALECT_311, 1, cipher, key, KEY_BYTES, number_at(m + SESSION_AT), m, TEXT_AT + n,
-                         &headers) == SMB3SEAL_DONE;
+    return seal(SMB3SEAL_CIPHER_AES_128_CCM, key, key_len, m, n);
 }
 
-static int ccm_seal(const uint8_t *key, uint8_t *m, size_t n)
+static int ccm_open(const uint8_t *key, size_t key_len, uint8_t *m, size_t n)
 {
-    return seal(SMB3SEAL_CIPHER_AES_128_CCM, key, m, n);
+    return open(SMB3SEAL_CIPHER_AES_128_CCM, key, key_len, m, n);
 }
 
-static int ccm_open(const uint8_t *key, uint8_t *m, size_t n)
+static int gcm_seal(const uint8_t *key, size_t key_len, uint8_t *m, size_t n)
 {
-    return open(SMB3SEAL_CIPHER_AES_128_CCM, key, m, n);
+    return seal(SMB3SEAL_CIPHER_AES_128_GCM, key, key_len, m, n);
 }
 
-static int gcm_seal(const uint8_t *key, uint8_t *m, size_t n)
+static int gcm_open(const uint8_t *key, size_t key_len, uint8_t *m, size_t n)
 {
-    return seal(SMB3SEAL_CIPHER_AES_128_GCM, key, m, n);
-}
-
-static int gcm_open(const uint8_t *key, uint8_t *m, size_t n)
-{
-    return open(SMB3SEAL_CIPHER_AES_128_GCM, key, m, n);
+    return open(SMB3SEAL_CIPHER_AES_128_GCM, key, key_len, m, n);
 }
 
 static int sign(const uint8_t *key, uint8_t *m, size_t n)
@@ -63,8 +69,8 @@ static int sign(const uint8_t *key, uint8_t *m, size_t n)
 
 static int derive(const struct derivation *d, uint8_t *keys)
 {
-    return smb3seal_derive(SMB3SEAL_DIALECT_311, d->material, 16, d->chain, SMB3SEAL_CHAIN_BYTES, keys, SMB3SEAL_KEYS_BYTES) ==
-           SMB3SEAL_DONE;
+    return smb3seal_derive(SMB3SEAL_DIALECT_311, SMB3SEAL_CIPHER_AES_128_GCM, d->material, 16, d->chain, SMB3SEAL_CHAIN_BYTES, keys,
+                           SMB3SEAL_KEYS_BYTES) == SMB3SEAL_DONE;
 }
 
 static int fold(uint8_t *chain, const uint8_t *message, size_t n)

@@ -25,30 +25,30 @@ static int prepare(char *description, size_t room)
     return wc_AesInit(&aes, NULL, INVALID_DEVID) == 0;
 }
 
-static int ccm_seal(const uint8_t *key, uint8_t *m, size_t n)
+static int ccm_seal(const uint8_t *key, size_t key_len, uint8_t *m, size_t n)
 {
-    return wc_AesCcmSetKey(&aes, key, KEY_BYTES) == 0 &&
+    return wc_AesCcmSetKey(&aes, key, (word32)key_len) == 0 &&
            wc_AesCcmEncrypt(&aes, m + TEXT_AT, m + TEXT_AT, (word32)n, m + NONCE_AT, CCM_NONCE_BYTES, m + TAG_AT, TAG_BYTES,
                             m + AAD_AT, AAD_BYTES) == 0;
 }
 
-static int ccm_open(const uint8_t *key, uint8_t *m, size_t n)
+static int ccm_open(const uint8_t *key, size_t key_len, uint8_t *m, size_t n)
 {
-    return wc_AesCcmSetKey(&aes, key, KEY_BYTES) == 0 &&
+    return wc_AesCcmSetKey(&aes, key, (word32)key_len) == 0 &&
            wc_AesCcmDecrypt(&aes, m + TEXT_AT, m + TEXT_AT, (word32)n, m + NONCE_AT, CCM_NONCE_BYTES, m + TAG_AT, TAG_BYTES,
                             m + AAD_AT, AAD_BYTES) == 0;
 }
 
-static int gcm_seal(const uint8_t *key, uint8_t *m, size_t n)
+static int gcm_seal(const uint8_t *key, size_t key_len, uint8_t *m, size_t n)
 {
-    return wc_AesGcmSetKey(&aes, key, KEY_BYTES) == 0 &&
+    return wc_AesGcmSetKey(&aes, key, (word32)key_len) == 0 &&
            wc_AesGcmEncrypt(&aes, m + TEXT_AT, m + TEXT_AT, (word32)n, m + NONCE_AT, GCM_NONCE_BYTES, m + TAG_AT, TAG_BYTES,
                             m + AAD_AT, AAD_BYTES) == 0;
 }
 
-static int gcm_open(const uint8_t *key, uint8_t *m, size_t n)
+static int gcm_open(const uint8_t *key, size_t key_len, uint8_t *m, size_t n)
 {
-    return wc_AesGcmSetKey(&aes, key, KEY_BYTES) == 0 &&
+    return wc_AesGcmSetKey(&aes, key, (word32)key_len) == 0 &&
            wc_AesGcmDecrypt(&aes, m + TEXT_AT, m + TEXT_AT, (word32)n, m + NONCE_AT, GCM_NONCE_BYTES, m + TAG_AT, TAG_BYTES,
                             m + AAD_AT, AAD_BYTES) == 0;
 }

@@ -19,6 +19,7 @@
 
 enum { STACK = 1048576, HEADER = SMB3SEAL_HEADER_BYTES, LONGEST = SMB3SEAL_LONGEST_MESSAGE, SESSION = 0x3039, RECORDS = 16 };
 enum { CCM = SMB3SEAL_CIPHER_AES_128_CCM, GCM = SMB3SEAL_CIPHER_AES_128_GCM };
+enum { CCM_256 = SMB3SEAL_CIPHER_AES_256_CCM, GCM_256 = SMB3SEAL_CIPHER_AES_256_GCM };
 
 /* A call: what is lent to it, and the answer that it has to give. */
 struct call {
@@ -30,21 +31,33 @@ struct call {
 };
 
 static _Alignas(64) uint8_t painted[STACK];
-static uint8_t message[HEADER + LONGEST], keys[64], chain[64];
-static const uint8_t key[16] = {1, 2, 3};
+static uint8_t message[HEADER + LONGEST], keys[SMB3SEAL_KEYS_256_BYTES], chain[64];
+static const uint8_t key[32] = {1, 2, 3};
 static struct smb3seal_session table[RECORDS];
 static const struct call *current;
 static const uint8_t *caller;
 static uint32_t answer;
 
+static size_t key_bytes(void)
+{
+    return smb3seal_cipher_key_bytes(SMB3SEAL_DIALECT_311, current->cipher);
+}
+
+/* The longest key material that counts as a whole, or one that is longer. */
+static size_t material_bytes(void)
+{
+    return key_bytes() == SMB3SEAL_KEY_256_BYTES ? SMB3SEAL_LONGEST_MATERIAL : LONGEST;
+}
+
 static uint32_t derive_300(void)
 {
-    return smb3seal_derive(SMB3SEAL_DIALECT_300, message, LONGEST, chain, 64, keys, 64);
+    return smb3seal_derive(SMB3SEAL_DIALECT_300, current->cipher, message, LONGEST, chain, 64, keys, 64);
 }
 
 static uint32_t derive_311(void)
 {
-    return smb3seal_derive(SMB3SEAL_DIALECT_311, message, LONGEST, chain, 64, keys, 64);
+    size_t n = smb3seal_keys_bytes(SMB3SEAL_DIALECT_311, current->cipher);
+    return smb3seal_derive(SMB3SEAL_DIALECT_311, current->cipher, message, material_bytes(), chain, 64, keys, n);
 }
 
 static uint32_t fold(void)
@@ -69,14 +82,15 @@ static uint32_t fold_response(void)
 static uint32_t seal(void)
 {
     uint64_t counter = 0, headers;
-    return smb3seal_seal(SMB3SEAL_CLIENT, SMB3SEAL_DIALECT_311, 1, current->cipher, key, 16, SESSION, &counter, message, sizeof message,
-                         &headers);
+    return smb3seal_seal(SMB3SEAL_CLIENT, SMB3SEAL_DIALECT_311, 1, current->cipher, key, key_bytes(), SESSION, &counter, message,
+                         sizeof message, &headers);
 }
 
 static uint32_t open(void)
 {
     uint64_t headers;
-    return smb3seal_open(SMB3SEAL_SERVER, SMB3SEAL_DIALECT_311, 1, current->cipher, key, 16, SESSION, message, sizeof message, &headers);
+    return smb3seal_open(SMB3SEAL_SERVER, SMB3SEAL_DIALECT_311, 1, current->cipher, key, key_bytes(), SESSION, message, sizeof message,
+                         &headers);
 }
 
 /* The end that seals is a client, and the one that opens a server: both with the key of one direction. */
@@ -92,7 +106,7 @@ static uint32_t table_find(void)
 
 static uint32_t table_add(void)
 {
-    return smb3seal_table_add(table, RECORDS, connection(SMB3SEAL_CLIENT), SESSION + 1, 0, 0, message, LONGEST, chain, 64);
+    return smb3seal_table_add(table, RECORDS, connection(SMB3SEAL_CLIENT), SESSION + 1, 0, 0, message, material_bytes(), chain, 64);
 }
 
 static uint32_t table_remove(void)
@@ -118,7 +132,8 @@ static void fill_table(void)
     memset(table, 0, sizeof table);
     for (size_t i = 1; i < RECORDS; i++) table[i] = (struct smb3seal_session){.id = i, .used = 1};
     table[RECORDS - 1].id = SESSION;
-    memcpy(table[RECORDS - 1].client_to_server, key, 16);
+    memcpy(table[RECORDS - 1].client_to_server, key, sizeof key);
+    table[RECORDS - 1].wide = key_bytes() == SMB3SEAL_KEY_256_BYTES;
 }
 
 /* In clear: the message behind the room for a transform header. */
@@ -180,9 +195,9 @@ static void sealed_with_bad_header(void)
     message[42] = 1;
     memcpy(message + 44, "\x39\x30", 2);
     message[sizeof message - 64] = 0;
-    uint32_t r = current->cipher == CCM
-                     ? primitives_ccm_seal(key, 16, nonce, 11, message + 20, 32, message + HEADER, LONGEST, message + 4, 16)
-                     : primitives_gcm_seal(key, 16, nonce, 12, message + 20, 32, message + HEADER, LONGEST, message + 4, 16);
+    uint32_t r = current->cipher == CCM || current->cipher == CCM_256
+                     ? primitives_ccm_seal(key, key_bytes(), nonce, 11, message + 20, 32, message + HEADER, LONGEST, message + 4, 16)
+                     : primitives_gcm_seal(key, key_bytes(), nonce, 12, message + 20, 32, message + HEADER, LONGEST, message + 4, 16);
     if (r != 0) exit(1);
 }
 
@@ -195,6 +210,7 @@ static void signed_in_clear(void)
 static const struct call calls[] = {
     {"derive, 3.0", plain, derive_300, 0, SMB3SEAL_DONE},
     {"derive, 3.1.1", plain, derive_311, 0, SMB3SEAL_DONE},
+    {"derive, 3.1.1, 256", plain, derive_311, GCM_256, SMB3SEAL_DONE},
     {"fold", plain, fold, 0, SMB3SEAL_DONE},
     {"fold_response", response, fold_response, 0, SMB3SEAL_DONE},
     {"fold, in pieces", plain, fold_pieces, 0, SMB3SEAL_DONE},
@@ -206,8 +222,17 @@ static const struct call calls[] = {
     {"open, GCM, bad tag", sealed_with_bad_tag, open, GCM, SMB3SEAL_BAD_TAG},
     {"open, CCM, bad inner header", sealed_with_bad_header, open, CCM, SMB3SEAL_NOT_HEADER},
     {"open, GCM, bad inner header", sealed_with_bad_header, open, GCM, SMB3SEAL_NOT_HEADER},
+    {"seal, CCM-256", plain, seal, CCM_256, SMB3SEAL_DONE},
+    {"seal, GCM-256", plain, seal, GCM_256, SMB3SEAL_DONE},
+    {"open, CCM-256", sealed, open, CCM_256, SMB3SEAL_DONE},
+    {"open, GCM-256", sealed, open, GCM_256, SMB3SEAL_DONE},
+    {"open, CCM-256, bad tag", sealed_with_bad_tag, open, CCM_256, SMB3SEAL_BAD_TAG},
+    {"open, GCM-256, bad tag", sealed_with_bad_tag, open, GCM_256, SMB3SEAL_BAD_TAG},
+    {"open, CCM-256, bad inner header", sealed_with_bad_header, open, CCM_256, SMB3SEAL_NOT_HEADER},
+    {"open, GCM-256, bad inner header", sealed_with_bad_header, open, GCM_256, SMB3SEAL_NOT_HEADER},
     {"table_find", plain, table_find, 0, SMB3SEAL_DONE},
     {"table_add", plain, table_add, 0, SMB3SEAL_DONE},
+    {"table_add, 256", plain, table_add, GCM_256, SMB3SEAL_DONE},
     {"table_remove", plain, table_remove, 0, SMB3SEAL_DONE},
     {"table_seal, CCM", plain, table_seal, CCM, SMB3SEAL_DONE},
     {"table_seal, GCM", plain, table_seal, GCM, SMB3SEAL_DONE},
@@ -215,6 +240,12 @@ static const struct call calls[] = {
     {"table_open, GCM", sealed, table_open, GCM, SMB3SEAL_DONE},
     {"table_open, CCM, bad tag", sealed_with_bad_tag, table_open, CCM, SMB3SEAL_BAD_TAG},
     {"table_open, GCM, bad tag", sealed_with_bad_tag, table_open, GCM, SMB3SEAL_BAD_TAG},
+    {"table_seal, CCM-256", plain, table_seal, CCM_256, SMB3SEAL_DONE},
+    {"table_seal, GCM-256", plain, table_seal, GCM_256, SMB3SEAL_DONE},
+    {"table_open, CCM-256", sealed, table_open, CCM_256, SMB3SEAL_DONE},
+    {"table_open, GCM-256", sealed, table_open, GCM_256, SMB3SEAL_DONE},
+    {"table_open, CCM-256, bad tag", sealed_with_bad_tag, table_open, CCM_256, SMB3SEAL_BAD_TAG},
+    {"table_open, GCM-256, bad tag", sealed_with_bad_tag, table_open, GCM_256, SMB3SEAL_BAD_TAG},
     {"sign", plain, sign, 0, SMB3SEAL_DONE},
     {"verify", signed_in_clear, verify, 0, SMB3SEAL_DONE},
     {"verify, in pieces", signed_in_clear, verify_pieces, 0, SMB3SEAL_DONE},
@@ -256,11 +287,11 @@ int main(int argc, char **argv)
         return 2;
     }
     fprintf(csv, "call,bytes_of_stack\n");
-    printf("\n%-30s %s\n", "", "bytes of stack");
+    printf("\n%-32s %s\n", "", "bytes of stack");
     for (size_t i = 0; i < sizeof calls / sizeof calls[0]; i++) {
         size_t a = need(&calls[i], 0xA5), b = need(&calls[i], 0x5A);
         size_t bytes = a > b ? a : b;
-        printf("%-30s %8zu\n", calls[i].name, bytes);
+        printf("%-32s %8zu\n", calls[i].name, bytes);
         fprintf(csv, "\"%s\",%zu\n", calls[i].name, bytes);
     }
     return fclose(csv) == 0 ? 0 : 1;

@@ -57,7 +57,7 @@ static int run_under_key(const struct task *t, uint8_t *m)
         return smb3seal_seal(SMB3SEAL_CLIENT, dialect, 1, t->cipher, key, 16, SESSION, &counter, m, n, &headers) == SMB3SEAL_DONE;
     if (t->work == OPEN)
         return smb3seal_open(SMB3SEAL_SERVER, dialect, 1, t->cipher, key, 16, SESSION, m, n, &headers) == SMB3SEAL_DONE;
-    return smb3seal_derive(dialect, key, 16, chain, 64, keys, 64) == SMB3SEAL_DONE;
+    return smb3seal_derive(dialect, t->cipher, key, 16, chain, 64, keys, 64) == SMB3SEAL_DONE;
 }
 
 /* Before adding the last record is made free, before removing it is made the session's: one or two stores. */

@@ -60,7 +60,7 @@ static void derive(const struct session *s, const uint8_t chain[SMB3SEAL_CHAIN_B
     printf("   session key         ");
     hex(d->material.at, d->material.len);
     uint32_t number =
-        smb3seal_derive(s->dialect, d->material.at, d->material.len, chain, SMB3SEAL_CHAIN_BYTES, keys, SMB3SEAL_KEYS_BYTES);
+        smb3seal_derive(s->dialect, s->cipher, d->material.at, d->material.len, chain, SMB3SEAL_CHAIN_BYTES, keys, SMB3SEAL_KEYS_BYTES);
     printf("\n   smb3seal_derive: %s\n", smb3seal_text(number));
     for (size_t i = 0; i < 4; i++) {
         size_t at = SMB3SEAL_KEY_BYTES * i;

@@ -1,7 +1,7 @@
 /*
  * A client and a server that exchange sealed messages over a socket pair, framed as on TCP: a zero byte, three bytes of length, the
  * message. On the way one request is damaged, one arrives twice, two change places, and one is sent back to its sender. Each end keeps
- * its two keys and its counter itself; server.c has the same with session tables.
+ * its two keys and its counter itself; server.c has the same with session tables. The cipher is one of 256 bits.
  *
  * After a number other than 0 a real server disconnects. This one goes on, so that all the answers can be seen.
  */
@@ -20,7 +20,7 @@ struct end {
     const char *name;
     int socket;
     struct smb3seal_connection connection;
-    uint8_t seal_key[SMB3SEAL_KEY_BYTES], open_key[SMB3SEAL_KEY_BYTES];
+    uint8_t seal_key[SMB3SEAL_KEY_256_BYTES], open_key[SMB3SEAL_KEY_256_BYTES];
     uint64_t counter;
     unsigned seen[16]; /* at the server: how often each MessageId has come */
 };
@@ -36,20 +36,19 @@ static void must(int holds, const char *what)
 /* Both ends come to the same keys, each from what it saw of negotiate and session setup: `setup` stands for those messages. */
 static struct end new_end(const char *name, int socket, int server, const uint8_t *setup, size_t setup_len)
 {
-    const uint8_t session_key[16] = {1, 2, 3};
-    uint8_t chain[SMB3SEAL_CHAIN_BYTES] = {0}, keys[SMB3SEAL_KEYS_BYTES];
+    const uint8_t material[32] = {1, 2, 3}; /* the whole key of the authentication: cipher keys of 256 bits come from all of it */
+    uint8_t chain[SMB3SEAL_CHAIN_BYTES] = {0}, keys[SMB3SEAL_KEYS_256_BYTES];
     struct end e = {.name = name, .socket = socket};
     e.connection.dialect = SMB3SEAL_DIALECT_311;
-    e.connection.cipher = SMB3SEAL_CIPHER_AES_128_GCM;
+    e.connection.cipher = SMB3SEAL_CIPHER_AES_256_GCM;
     e.connection.role = server ? SMB3SEAL_SERVER : SMB3SEAL_CLIENT;
     e.connection.encryption = 1;
     must(smb3seal_fold(chain, sizeof chain, setup, setup_len) == SMB3SEAL_DONE, "folding");
-    uint32_t answer =
-        smb3seal_connection_derive(e.connection, session_key, sizeof session_key, chain, sizeof chain, keys, sizeof keys);
+    uint32_t answer = smb3seal_connection_derive(e.connection, material, sizeof material, chain, sizeof chain, keys, sizeof keys);
     must(answer == SMB3SEAL_DONE, "deriving");
-    const uint8_t *to_server = keys + SMB3SEAL_CLIENT_TO_SERVER_KEY, *to_client = keys + SMB3SEAL_SERVER_TO_CLIENT_KEY;
-    memcpy(e.seal_key, server ? to_client : to_server, SMB3SEAL_KEY_BYTES);
-    memcpy(e.open_key, server ? to_server : to_client, SMB3SEAL_KEY_BYTES);
+    const uint8_t *to_server = keys + SMB3SEAL_CLIENT_TO_SERVER_KEY, *to_client = keys + SMB3SEAL_SERVER_TO_CLIENT_KEY_256;
+    memcpy(e.seal_key, server ? to_client : to_server, sizeof e.seal_key);
+    memcpy(e.open_key, server ? to_server : to_client, sizeof e.open_key);
     return e;
 }
 

@@ -4,6 +4,7 @@
  *
  * The server has room for three sessions. A fourth client has to wait for a logoff; one client is a guest, one gets a break notice, one
  * sends a message twice, one message is damaged on the way, one comes by another's connection, and one after its session was removed.
+ * One client has agreed on a cipher of 256 bits: its session stands in the same table, and is of no use under the others' cipher.
  */
 #include <smb3seal.h>
 #include <smb3seal_text.h>
@@ -16,18 +17,20 @@
 enum { LOGOFF = 2, ECHO = 13, OPLOCK_BREAK = 18, INNER_BYTES = 68, NOTICE_BYTES = 88, RECORDS = 3 };
 enum { SEALED_BYTES = SMB3SEAL_HEADER_BYTES + INNER_BYTES, SEALED_NOTICE_BYTES = SMB3SEAL_HEADER_BYTES + NOTICE_BYTES };
 
-static const struct smb3seal_connection client_end = {
-    .dialect = SMB3SEAL_DIALECT_311, .cipher = SMB3SEAL_CIPHER_AES_128_GCM, .role = SMB3SEAL_CLIENT, .encryption = 1};
-static const struct smb3seal_connection server_end = {
-    .dialect = SMB3SEAL_DIALECT_311, .cipher = SMB3SEAL_CIPHER_AES_128_GCM, .role = SMB3SEAL_SERVER, .encryption = 1};
-
 /* A client: a table of one session, and both ends of its connection. */
 struct client {
     const char *name;
     uint8_t id, guest;
+    uint16_t cipher;
     int socket, at_server;
     struct smb3seal_session table[1];
 };
+
+/* What client and server agreed on, as one of the two has it. */
+static struct smb3seal_connection agreed(const struct client *c, uint8_t role)
+{
+    return (struct smb3seal_connection){.dialect = SMB3SEAL_DIALECT_311, .cipher = c->cipher, .role = role, .encryption = 1};
+}
 
 /* The server: its table, and at the same place what it keeps of a session itself. */
 static struct smb3seal_session table[RECORDS];
@@ -102,22 +105,24 @@ static void say(const char *who, const char *what, uint32_t answer)
 /* The end of a session setup: both ends have the key of the authentication, and the same hash value of what was said before. */
 static void login(struct client *c)
 {
-    const uint8_t session_key[16] = {1, 2, c->id}, chain[SMB3SEAL_CHAIN_BYTES] = {4, 5, c->id};
-    uint32_t answer = smb3seal_table_add(table, RECORDS, server_end, c->id, c->guest, 0, session_key, 16, chain, sizeof chain);
+    const uint8_t key[32] = {1, 2, c->id}, chain[SMB3SEAL_CHAIN_BYTES] = {4, 5, c->id};
+    uint32_t answer =
+        smb3seal_table_add(table, RECORDS, agreed(c, SMB3SEAL_SERVER), c->id, c->guest, 0, key, sizeof key, chain, sizeof chain);
     say(c->name, c->guest ? "logs in as guest" : "logs in", answer);
     if (answer != SMB3SEAL_DONE) return;
     users[smb3seal_table_find(table, RECORDS, c->id)] = (struct user){.name = c->name, .socket = c->at_server};
-    answer = smb3seal_table_add(c->table, 1, client_end, c->id, c->guest, 0, session_key, 16, chain, sizeof chain);
+    answer = smb3seal_table_add(c->table, 1, agreed(c, SMB3SEAL_CLIENT), c->id, c->guest, 0, key, sizeof key, chain, sizeof chain);
     must(answer == SMB3SEAL_DONE, "a client cannot add its session");
 }
 
-/* One message from a connection. A real server disconnects where this one only says why. */
-static void serve(int socket)
+/* One message from a client's connection. A real server disconnects where this one only says why. */
+static void serve(const struct client *from)
 {
+    struct smb3seal_connection connection = agreed(from, SMB3SEAL_SERVER);
     uint8_t message[SEALED_BYTES];
     uint64_t headers;
-    size_t n = receive_frame(socket, message, sizeof message);
-    uint32_t answer = smb3seal_table_open(table, RECORDS, server_end, message, n, &headers);
+    size_t n = receive_frame(from->at_server, message, sizeof message);
+    uint32_t answer = smb3seal_table_open(table, RECORDS, connection, message, n, &headers);
     if (answer != SMB3SEAL_DONE) {
         say("server", "refuses", answer);
         return;
@@ -126,7 +131,7 @@ static void serve(int socket)
     struct user *user = &users[smb3seal_table_find(table, RECORDS, id)];
     uint8_t command = message[SMB3SEAL_HEADER_BYTES + 12], message_id = message[SMB3SEAL_HEADER_BYTES + 24];
     printf("server: opened MessageId %d of %s\n", message_id, user->name);
-    if (user->socket != socket) {
+    if (user->socket != from->at_server) {
         printf("server: it came by another's connection: that is for the program to check\n");
         return;
     }
@@ -135,9 +140,9 @@ static void serve(int socket)
         return;
     }
     make(message, id, command, message_id, 1);
-    answer = smb3seal_table_seal(table, RECORDS, server_end, id, message, sizeof message, &headers);
+    answer = smb3seal_table_seal(table, RECORDS, connection, id, message, sizeof message, &headers);
     must(answer == SMB3SEAL_DONE, "a response cannot be sealed");
-    send_frame(socket, message, sizeof message);
+    send_frame(from->at_server, message, sizeof message);
     if (command == LOGOFF) say("server", "removes the session", smb3seal_table_remove(table, RECORDS, id));
 }
 
@@ -149,24 +154,26 @@ static void notify(const struct client *c)
     make(message, 0, OPLOCK_BREAK, 0xFF, 1);
     memset(message + SMB3SEAL_HEADER_BYTES + 24, 0xFF, 8);
     message[SMB3SEAL_HEADER_BYTES + 64] = NOTICE_BYTES - 64;
-    say("server", "seals a break notice", smb3seal_table_seal(table, RECORDS, server_end, c->id, message, sizeof message, &headers));
+    uint32_t answer = smb3seal_table_seal(table, RECORDS, agreed(c, SMB3SEAL_SERVER), c->id, message, sizeof message, &headers);
+    say("server", "seals a break notice", answer);
     send_frame(c->at_server, message, sizeof message);
 }
 
 /* ---- the clients */
 
-static struct client connected(const char *name, uint8_t id, uint8_t guest)
+static struct client connected(const char *name, uint8_t id, uint8_t guest, uint16_t cipher)
 {
     int sockets[2];
     must(socketpair(AF_UNIX, SOCK_STREAM, 0, sockets) == 0, "socketpair");
-    return (struct client){.name = name, .id = id, .guest = guest, .socket = sockets[0], .at_server = sockets[1]};
+    return (struct client){.name = name, .id = id, .guest = guest, .cipher = cipher, .socket = sockets[0], .at_server = sockets[1]};
 }
 
 static void sealed(struct client *c, uint8_t command, uint8_t message_id, uint8_t message[SEALED_BYTES])
 {
     uint64_t headers;
     make(message, c->id, command, message_id, 0);
-    must(smb3seal_table_seal(c->table, 1, client_end, c->id, message, SEALED_BYTES, &headers) == SMB3SEAL_DONE, "sealing");
+    uint32_t answer = smb3seal_table_seal(c->table, 1, agreed(c, SMB3SEAL_CLIENT), c->id, message, SEALED_BYTES, &headers);
+    must(answer == SMB3SEAL_DONE, "sealing");
 }
 
 /* A client looks for the marks of a break notice before it looks for the request. */
@@ -175,7 +182,7 @@ static void response(struct client *c)
     uint8_t message[SEALED_NOTICE_BYTES];
     uint64_t headers;
     size_t n = receive_frame(c->socket, message, sizeof message);
-    uint32_t answer = smb3seal_table_open(c->table, 1, client_end, message, n, &headers);
+    uint32_t answer = smb3seal_table_open(c->table, 1, agreed(c, SMB3SEAL_CLIENT), message, n, &headers);
     int notice = answer == SMB3SEAL_DONE && is_break_notice(message + SMB3SEAL_HEADER_BYTES);
     say(c->name, notice ? "opens a break notice, which answers no request" : "opens its response", answer);
 }
@@ -185,7 +192,7 @@ static void exchange(struct client *c, uint8_t command, uint8_t message_id)
     uint8_t message[SEALED_BYTES];
     sealed(c, command, message_id, message);
     send_frame(c->socket, message, sizeof message);
-    serve(c->at_server);
+    serve(c);
     response(c);
 }
 
@@ -198,16 +205,16 @@ static void replayed_damaged_and_misled(struct client *bob, struct client *ann)
     printf("on the way: Bob's next message, twice\n");
     for (int i = 0; i < 2; i++) {
         send_frame(bob->socket, message, sizeof message);
-        serve(bob->at_server);
+        serve(bob);
     }
     response(bob);
     sealed(bob, ECHO, 3, message);
     printf("on the way: Bob's next message, by Ann's connection, and then with a bit changed by his own\n");
     send_frame(ann->socket, message, sizeof message);
-    serve(ann->at_server);
+    serve(ann);
     message[SEALED_BYTES - 1] ^= 0x80;
     send_frame(bob->socket, message, sizeof message);
-    serve(bob->at_server);
+    serve(bob);
 }
 
 static void seal_for_guest(const struct client *guest)
@@ -215,13 +222,15 @@ static void seal_for_guest(const struct client *guest)
     uint8_t message[SEALED_BYTES];
     uint64_t headers;
     make(message, guest->id, ECHO, 1, 1);
-    say("server", "seals for a guest", smb3seal_table_seal(table, RECORDS, server_end, guest->id, message, sizeof message, &headers));
+    uint32_t answer = smb3seal_table_seal(table, RECORDS, agreed(guest, SMB3SEAL_SERVER), guest->id, message, sizeof message, &headers);
+    say("server", "seals for a guest", answer);
 }
 
 int main(void)
 {
-    struct client ann = connected("Ann", 0x11, 0), bob = connected("Bob", 0x22, 0), guest = connected("Guest", 0x33, 1),
-                  cid = connected("Cid", 0x44, 0);
+    const uint16_t short_keys = SMB3SEAL_CIPHER_AES_128_GCM, long_keys = SMB3SEAL_CIPHER_AES_256_GCM;
+    struct client ann = connected("Ann", 0x11, 0, short_keys), bob = connected("Bob", 0x22, 0, short_keys),
+                  guest = connected("Guest", 0x33, 1, short_keys), cid = connected("Cid", 0x44, 0, long_keys);
     uint8_t late[SEALED_BYTES];
     login(&ann);
     login(&bob);
@@ -238,10 +247,15 @@ int main(void)
     exchange(&ann, LOGOFF, 2);
     printf("on the way: a message of Ann's that comes after her logoff\n");
     send_frame(ann.socket, late, sizeof late);
-    serve(ann.at_server);
+    serve(&ann);
     login(&cid);
     exchange(&cid, ECHO, 1);
+    sealed(&cid, ECHO, 2, late);
+    printf("on the way: a message of Cid's, by the connection of Bob, who has agreed on a cipher of 128 bits\n");
+    send_frame(bob.socket, late, sizeof late);
+    serve(&bob);
     for (size_t i = 0; i < RECORDS; i++)
-        printf("record %zu: %s, session %02X, sealed %d\n", i, users[i].name, (unsigned)table[i].id, (int)table[i].counter);
+        printf("record %zu: %s, session %02X, sealed %d, cipher keys of %d bytes\n", i, users[i].name, (unsigned)table[i].id,
+               (int)table[i].counter, table[i].wide ? SMB3SEAL_KEY_256_BYTES : SMB3SEAL_KEY_BYTES);
     return 0;
 }

@@ -42,7 +42,8 @@ int main(void)
     const uint8_t session_key[16] = {1, 2, 3};       /* from the authentication */
     const uint8_t chain[SMB3SEAL_CHAIN_BYTES] = {0}; /* of no effect below 3.1.1 */
     uint8_t keys[SMB3SEAL_KEYS_BYTES], *key = keys + SMB3SEAL_SIGNING_KEY, compound[COMPOUND] = {0};
-    uint32_t answer = smb3seal_derive(SMB3SEAL_DIALECT_302, session_key, sizeof session_key, chain, sizeof chain, keys, sizeof keys);
+    uint32_t answer = smb3seal_derive(SMB3SEAL_DIALECT_302, SMB3SEAL_CIPHER_AES_128_CCM, session_key, sizeof session_key, chain, sizeof chain,
+                                      keys, sizeof keys);
     if (answer != SMB3SEAL_DONE) return 1;
 
     put_echo(compound, 0, PADDED); /* with four bytes of padding, so that the next header is on an 8-byte boundary */

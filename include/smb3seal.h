@@ -60,8 +60,8 @@
  * - Each function but smb3seal_table_find returns SMB3SEAL_DONE (0), or the number of the one reason for which it refused; those for
  *   pieces return it as the `number` of a step, beside the state. After a refusal every byte and every number that was lent is as it
  *   was: message, table, counter, headers, folded, chain, keys, trace.
- * - Where several reasons apply, SMB3SEAL_BAD_LENGTH comes first and then the lowest number wins; but 29 stands between 5 and 6, and the
- *   walk over the headers of a compounded message ends at the first header that breaks a rule.
+ * - Where several reasons apply, SMB3SEAL_BAD_LENGTH comes first and then the lowest number wins; but 29 stands between 5 and 6, 35 between 8
+ *   and 9, and the walk over the headers of a compounded message ends at the first header that breaks a rule.
  *
  * smb3seal_text.h has a sentence for each number. docs/SECURITY.md says what the library does not protect against.
  */
@@ -86,16 +86,16 @@ extern "C" {
  * minor version may also give a function other parameters; their number then changes, so that an old call does not compile. From
  * 1.0 on, that takes a new major version.
  *
- * Later versions add fields to struct smb3seal_session (the size of its keys, further channels), and until 1.0 a minor version may make
+ * Later versions add fields to struct smb3seal_session (further channels), and until 1.0 a minor version may make
  * it larger. So header and archive are of one version, all parts of a program that share a table are compiled with one header, and a
  * table lives in memory alone: it is not stored and not sent. The spare bytes of a record that the library makes are 0. The spare byte
  * of a struct smb3seal_connection must be 0, so that it can get a meaning.
  */
 
 #define SMB3SEAL_VERSION_MAJOR 0
-#define SMB3SEAL_VERSION_MINOR 9
+#define SMB3SEAL_VERSION_MINOR 10
 #define SMB3SEAL_VERSION_PATCH 0
-#define SMB3SEAL_VERSION "0.9.0"
+#define SMB3SEAL_VERSION "0.10.0"
 
 /* ---- dialects and ciphers, as MS-SMB2 numbers them */
 
@@ -105,6 +105,8 @@ extern "C" {
 
 #define SMB3SEAL_CIPHER_AES_128_CCM 1
 #define SMB3SEAL_CIPHER_AES_128_GCM 2
+#define SMB3SEAL_CIPHER_AES_256_CCM 3 /* on 3.1.1 alone */
+#define SMB3SEAL_CIPHER_AES_256_GCM 4 /* on 3.1.1 alone */
 
 /* ---- roles */
 
@@ -114,17 +116,21 @@ extern "C" {
 /* ---- lengths */
 
 #define SMB3SEAL_HEADER_BYTES 52         /* the transform header, before every sealed message */
-#define SMB3SEAL_KEY_BYTES 16            /* a cipher or signing key */
+#define SMB3SEAL_KEY_BYTES 16            /* a signing key, an application key, a cipher key of 128 bits */
+#define SMB3SEAL_KEY_256_BYTES 32        /* a cipher key of 256 bits: on 3.1.1 with cipher 3 or 4 */
 #define SMB3SEAL_CHAIN_BYTES 64          /* a preauthentication integrity hash value */
 #define SMB3SEAL_KEYS_BYTES 64           /* the four keys that smb3seal_derive writes */
+#define SMB3SEAL_KEYS_256_BYTES 96       /* the same with cipher keys of 256 bits */
+#define SMB3SEAL_LONGEST_MATERIAL 65536  /* bytes of key material that cipher keys of 256 bits come from; else any length will do */
 #define SMB3SEAL_LONGEST_MESSAGE 8454144 /* bytes behind the transform header, and of a message that is folded, signed or verified */
 
 /* ---- where smb3seal_derive writes each key */
 
-#define SMB3SEAL_SIGNING_KEY 0           /* both ends sign and verify with it */
+#define SMB3SEAL_SIGNING_KEY 0               /* both ends sign and verify with it */
 #define SMB3SEAL_APPLICATION_KEY 16
-#define SMB3SEAL_CLIENT_TO_SERVER_KEY 32 /* a client seals with it, a server opens with it */
-#define SMB3SEAL_SERVER_TO_CLIENT_KEY 48 /* a server seals with it, a client opens with it */
+#define SMB3SEAL_CLIENT_TO_SERVER_KEY 32     /* a client seals with it, a server opens with it */
+#define SMB3SEAL_SERVER_TO_CLIENT_KEY 48     /* a server seals with it, a client opens with it */
+#define SMB3SEAL_SERVER_TO_CLIENT_KEY_256 64 /* the same, behind a cipher key of 256 bits */
 
 /*
  * ---- break notices
@@ -159,7 +165,7 @@ extern "C" {
 #define SMB3SEAL_DONE 0
 
 /* The connection. Opening: the peer sealed where nothing was agreed, or the program lends the wrong dialect or cipher. */
-#define SMB3SEAL_NOT_ENCRYPTING 1 /* unknown dialect or role, encryption off, cipher 0, or on 3.1.1 a cipher other than 1 or 2 */
+#define SMB3SEAL_NOT_ENCRYPTING 1 /* unknown dialect or role, encryption off, cipher 0, or on 3.1.1 a cipher other than 1 to 4 */
 
 /* The message as it arrived, before any decryption. */
 #define SMB3SEAL_TOO_SHORT 2     /* the whole message has at most 52 bytes */
@@ -188,8 +194,8 @@ extern "C" {
 #define SMB3SEAL_COUNTER_USED_UP 17 /* the counter is 2^64 - 1: this key must not seal any more */
 
 /* Deriving and adding. Do not finish the session's setup; a client fails the logon, a server disconnects. */
-#define SMB3SEAL_UNKNOWN_DIALECT 18 /* the dialect is not one of the three: a fault of the program */
-#define SMB3SEAL_NO_KEY_MATERIAL 19 /* the key material is empty: the authentication gave no session key */
+#define SMB3SEAL_UNKNOWN_DIALECT 18  /* the dialect is not one of the three: a fault of the program */
+#define SMB3SEAL_BAD_KEY_MATERIAL 19 /* the key material is empty, or has over 65,536 bytes where cipher keys of 256 bits come from it */
 
 /* Adding. Do not finish the session's setup; 20, 21: a server takes another id, a client disconnects; 22: refuse the logon. */
 #define SMB3SEAL_ID_ZERO 20    /* the id of the session to add is 0 */
@@ -206,11 +212,14 @@ extern "C" {
 /* Opening, with GCM alone. The sender breaks a rule of MS-SMB2: as on 1 to 16, a server disconnects, and a client uses nothing of it. */
 #define SMB3SEAL_DIRTY_NONCE 29 /* under GCM one of the last four bytes of the Nonce field (32..36) is not 0; tested after 5 and before 6 */
 
-/* Lab traces. Reading: the trace is damaged or cut off from this place on. Writing: a fault of the program, or no room is left. */
+/* The session of the table under another cipher. A fault of the program: a session is used with the cipher of its connection. */
+#define SMB3SEAL_OTHER_KEY_SIZE 35 /* the session was added for a cipher of the other key size; tested after 8 */
+
+/* Lab traces. Reading: the trace is damaged or cut off from this place on. Writing: a fault of the program, or no room is left. A rescue: the head cannot be read, or no room is left. */
 #define SMB3SEAL_UNREADABLE 36 /* no head or record of a lab trace that a reader reads, or the room does not hold it */
 
 /* Lengths that are fixed. A fault of the program, on every dialect. */
-#define SMB3SEAL_BAD_LENGTH 40 /* a key is not 16, a chain value not 64, the place for the keys not 64, or that for a signature not 16 bytes long */
+#define SMB3SEAL_BAD_LENGTH 40 /* a cipher key is not 16 bytes long (32 on 3.1.1 with cipher 3 or 4), a signing key not 16, a chain value not 64, the place for the keys not 64 (96), or that for a signature not 16 */
 
 /* ---- functions */
 
@@ -316,18 +325,38 @@ struct smb3seal_fold_step smb3seal_fold_finish(struct smb3seal_fold_state state,
 struct smb3seal_fold_step smb3seal_fold_response_finish(struct smb3seal_fold_state state, uint8_t *chain, size_t chain_len);
 
 /*
- * Derives the four keys of a session (MS-SMB2 3.1.4.2, 3.2.5.3.1), each of 16 bytes.
+ * How long a cipher key is: SMB3SEAL_KEY_256_BYTES on 3.1.1 with cipher 3 or 4, else SMB3SEAL_KEY_BYTES. The cipher key of a client is at
+ * SMB3SEAL_CLIENT_TO_SERVER_KEY, that of a server as many bytes behind it.
+ */
+static inline size_t smb3seal_cipher_key_bytes(uint16_t dialect, uint16_t cipher)
+{
+    return dialect == SMB3SEAL_DIALECT_311 && (cipher == SMB3SEAL_CIPHER_AES_256_CCM || cipher == SMB3SEAL_CIPHER_AES_256_GCM)
+               ? SMB3SEAL_KEY_256_BYTES
+               : SMB3SEAL_KEY_BYTES;
+}
+
+/* How long the place for the four keys is: SMB3SEAL_KEYS_256_BYTES or SMB3SEAL_KEYS_BYTES. */
+static inline size_t smb3seal_keys_bytes(uint16_t dialect, uint16_t cipher)
+{
+    return 2 * SMB3SEAL_KEY_BYTES + 2 * smb3seal_cipher_key_bytes(dialect, cipher);
+}
+
+/*
+ * Derives the four keys of a session (MS-SMB2 3.1.4.2, 3.2.5.3.1): a signing and an application key of 16 bytes, and two cipher keys of
+ * the cipher's size.
  *
  * dialect   SMB3SEAL_DIALECT_..
- * material  reads: the session key of the authentication, of any length but 0; its first 16 bytes count, padded with zeros at the
- *           right
+ * cipher    SMB3SEAL_CIPHER_.., the one that the connection agreed on; its key size alone counts, and any number is taken
+ * material  reads: the key of the authentication, of any length but 0. Signing and application keys, and cipher keys of 16 bytes, come
+ *           from its first 16 bytes, padded with zeros at the right; cipher keys of 32 bytes from all of it, up to
+ *           SMB3SEAL_LONGEST_MATERIAL
  * chain     reads: the session's preauthentication hash value; SMB3SEAL_CHAIN_BYTES on every dialect, though only 3.1.1 uses it
- * keys      writes: SMB3SEAL_KEYS_BYTES, each key at its SMB3SEAL_.._KEY
+ * keys      writes: SMB3SEAL_KEYS_BYTES, each key at its SMB3SEAL_.._KEY; or SMB3SEAL_KEYS_256_BYTES, with cipher keys of 32 bytes
  *
  * Answers 0, or 40, 18, 19.
  */
-uint32_t smb3seal_derive(uint16_t dialect, const uint8_t *material, size_t material_len, const uint8_t *chain, size_t chain_len,
-                         uint8_t *keys, size_t keys_len);
+uint32_t smb3seal_derive(uint16_t dialect, uint16_t cipher, const uint8_t *material, size_t material_len, const uint8_t *chain,
+                         size_t chain_len, uint8_t *keys, size_t keys_len);
 
 /*
  * Seals in place. Afterwards the message, of the same length, is ready to send.
@@ -336,7 +365,7 @@ uint32_t smb3seal_derive(uint16_t dialect, const uint8_t *material, size_t mater
  * dialect     SMB3SEAL_DIALECT_..
  * encryption  0 for off, anything else for on
  * cipher      SMB3SEAL_CIPHER_..; below 3.1.1 any number but 0 means AES-128-CCM
- * key         reads: SMB3SEAL_KEY_BYTES, the key of this direction
+ * key         reads: SMB3SEAL_KEY_BYTES or SMB3SEAL_KEY_256_BYTES, as the cipher has it: the key of this direction
  * session_id  written to the transform header; the inner headers must carry it (a related one behind the first need not, nor a break
  *             notice that a server seals)
  * counter     reads, and writes one more: the send counter of this key, which becomes the nonce. Start it at 0 for a new key, keep
@@ -355,7 +384,7 @@ uint32_t smb3seal_seal(uint32_t role, uint16_t dialect, uint32_t encryption, uin
  * the message is as received: no byte of plaintext is left in it.
  *
  * role, dialect, encryption, cipher   as for smb3seal_seal; the role is that of the end that opens
- * key         reads: SMB3SEAL_KEY_BYTES, the key of the other direction
+ * key         reads: SMB3SEAL_KEY_BYTES or SMB3SEAL_KEY_256_BYTES, as the cipher has it: the key of the other direction
  * session_id  the session that the caller looked up by the header's SessionId (bytes 44..52, little-endian)
  * message     reads and writes: the whole received message, without the transport's length field
  * headers     writes: the number of inner headers
@@ -498,19 +527,19 @@ static inline uint32_t smb3seal_connection_encryption(struct smb3seal_connection
 }
 
 /*
- * smb3seal_derive with the dialect of the connection. A later version takes the cipher from it too.
+ * smb3seal_derive with the dialect and the cipher of the connection.
  *
  * Answers 0, or 40, 18, 19.
  */
 static inline uint32_t smb3seal_connection_derive(struct smb3seal_connection connection, const uint8_t *material, size_t material_len,
                                                   const uint8_t *chain, size_t chain_len, uint8_t *keys, size_t keys_len)
 {
-    return smb3seal_derive(connection.dialect, material, material_len, chain, chain_len, keys, keys_len);
+    return smb3seal_derive(connection.dialect, connection.cipher, material, material_len, chain, chain_len, keys, keys_len);
 }
 
 /*
  * smb3seal_seal with the role, dialect, encryption and cipher of the connection. The key is the caller's choice: on a client the one at
- * SMB3SEAL_CLIENT_TO_SERVER_KEY, on a server the other. Whether the connection is constrained is not looked at.
+ * SMB3SEAL_CLIENT_TO_SERVER_KEY, on a server the one behind it. Whether the connection is constrained is not looked at.
  *
  * Answers 0, or 40, 1, 2, 3, 11 to 16, 17.
  */
@@ -555,12 +584,13 @@ struct smb3seal_session {
     uint64_t counter;             /* the next nonce of this end's sealing key */
     uint8_t signing[16];          /* the keys that smb3seal_derive writes, in its order */
     uint8_t application[16];      /* for the application above */
-    uint8_t client_to_server[16]; /* 16 zero bytes where the session is guest or anonymous */
-    uint8_t server_to_client[16]; /* 16 zero bytes where the session is guest or anonymous */
+    uint8_t client_to_server[32]; /* a key of 16 bytes has 16 zeros behind it; all 0 where the session is guest or anonymous */
+    uint8_t server_to_client[32]; /* the same */
     uint8_t used;                 /* 0 for a free record, anything else for a session's */
     uint8_t guest;                /* 0 for no, anything else for yes */
     uint8_t anonymous;            /* 0 for no, anything else for yes */
-    uint8_t spare[5];             /* the library writes 0, and does not look at them */
+    uint8_t wide;                 /* 0 for cipher keys of 16 bytes, anything else for 32 */
+    uint8_t spare[4];             /* the library writes 0, and does not look at them */
 };
 
 /*
@@ -573,11 +603,11 @@ struct smb3seal_session {
 size_t smb3seal_table_find(const struct smb3seal_session *table, size_t table_len, uint64_t session_id);
 
 /*
- * Adds a session. The first free record gets its id, counter 0, the four keys that smb3seal_derive gives, used 1, both marks as 0 or 1,
- * and spare bytes of 0. If either mark is set, its cipher keys are zero bytes, and nothing can be sealed or opened for it.
+ * Adds a session. The first free record gets its id, counter 0, the four keys that smb3seal_derive gives, used 1, both marks and the key
+ * size as 0 or 1, and spare bytes of 0. If either mark is set, its cipher keys are zero bytes, and nothing can be sealed or opened for it.
  *
  * table       reads and writes: table_len records; all but the one that is filled stay as they are
- * connection  its dialect counts, and nothing else; a later version looks at the cipher too
+ * connection  its dialect and its cipher count, and nothing else
  * session_id  the SessionId that the server chose, not 0
  * guest       0 for no, anything else for yes
  * anonymous   0 for no, anything else for yes
@@ -615,7 +645,7 @@ uint32_t smb3seal_table_remove(struct smb3seal_session *table, size_t table_len,
  *             or a compound of them
  * headers     writes: the number of inner headers
  *
- * Answers 0, or 1, 2, 3, 6, 7, 8, 11 to 16, 17.
+ * Answers 0, or 1, 2, 3, 6, 7, 8, 35, 11 to 16, 17.
  */
 uint32_t smb3seal_table_seal(struct smb3seal_session *table, size_t table_len, struct smb3seal_connection connection,
                              uint64_t session_id, uint8_t *message, size_t message_len, uint64_t *headers);
@@ -633,7 +663,7 @@ uint32_t smb3seal_table_seal(struct smb3seal_session *table, size_t table_len, s
  * A sealed message that arrives twice opens twice. Whether its MessageId was seen before is for the caller to check, and where a table
  * serves several connections, whether its session belongs to the one by which it came.
  *
- * Answers 0, or 1 to 5, 29, 6 to 16.
+ * Answers 0, or 1 to 5, 29, 6, 7, 8, 35, 9 to 16.
  */
 uint32_t smb3seal_table_open(const struct smb3seal_session *table, size_t table_len, struct smb3seal_connection connection,
                              uint8_t *message, size_t message_len, uint64_t *headers);

@@ -29,7 +29,7 @@ static inline const char *smb3seal_text(uint32_t number)
     case SMB3SEAL_NEXT_UNALIGNED: return "NextCommand is not a multiple of 8";
     case SMB3SEAL_COUNTER_USED_UP: return "the send counter is used up: end the session and set up a new one";
     case SMB3SEAL_UNKNOWN_DIALECT: return "the dialect is none of 3.0, 3.0.2 and 3.1.1";
-    case SMB3SEAL_NO_KEY_MATERIAL: return "the key material is empty";
+    case SMB3SEAL_BAD_KEY_MATERIAL: return "the key material is empty, or too long for a cipher of 256 bits";
     case SMB3SEAL_ID_ZERO: return "the id of the session to add is 0";
     case SMB3SEAL_ID_TAKEN: return "a session with this id is in the table";
     case SMB3SEAL_TABLE_FULL: return "the session table is full";
@@ -37,6 +37,7 @@ static inline const char *smb3seal_text(uint32_t number)
     case SMB3SEAL_NOT_SIGNED: return "the message is not signed";
     case SMB3SEAL_BAD_SIGNATURE: return "the signature differs";
     case SMB3SEAL_DIRTY_NONCE: return "the nonce does not end in zeros";
+    case SMB3SEAL_OTHER_KEY_SIZE: return "the session was added for a cipher of the other key size";
     case SMB3SEAL_UNREADABLE: return "the trace cannot be read here, or would not be, or its room is full";
     case SMB3SEAL_BAD_LENGTH: return "a lent key, chain value, place for keys or place for a signature has the wrong length";
     default: return "unknown number";

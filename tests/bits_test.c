@@ -11,7 +11,7 @@
 static uint32_t number_of_byte(const struct call *c, size_t at)
 {
     if (at < 4) return 4;
-    if (at >= 32 && at < 36 && c->dialect == 0x0311 && c->cipher == 2) return 29;
+    if (at >= 32 && at < 36 && c->dialect == 0x0311 && c->cipher % 2 == 0) return 29;
     if (at >= 42 && at < 44) return 5;
     return at >= 44 && at < TRANSFORM ? 6 : 9;
 }
@@ -32,7 +32,7 @@ static void every_bit(struct call *c)
 static void sealed_here(uint16_t dialect, uint16_t cipher, size_t n)
 {
     struct call c = plain_call(SEAL, cipher, n);
-    c.dialect = dialect;
+    set_dialect(&c, dialect);
     fill(c.message.at + TRANSFORM + HEADER, n - HEADER);
     expect_answer(&c, 0, "sealing");
     c.function = OPEN;
@@ -51,10 +51,11 @@ static void published(const struct transform *t)
 int main(int argc, char **argv)
 {
     begin(argc, argv);
-    for (uint16_t cipher = 1; cipher <= 2; cipher++)
+    for (uint16_t cipher = 1; cipher <= 4; cipher++)
         for (size_t n = HEADER; n <= 120; n += 7) sealed_here(0x0311, cipher, n);
     sealed_here(0x0300, 1, 100);
     sealed_here(0x0302, 2, 100);
+    sealed_here(0x0302, 4, 100);
     for (size_t i = 0; i < COUNT(transforms); i++) published(&transforms[i]);
     return finish();
 }

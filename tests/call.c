@@ -60,7 +60,7 @@ static void take_back(struct outcome *o, const struct lender *lender)
 
 /* The functions, as the library and as the model have them. */
 struct functions {
-    uint32_t (*derive)(uint16_t, const uint8_t *, size_t, const uint8_t *, size_t, uint8_t *, size_t);
+    uint32_t (*derive)(uint16_t, uint16_t, const uint8_t *, size_t, const uint8_t *, size_t, uint8_t *, size_t);
     uint32_t (*fold)(uint8_t *, size_t, const uint8_t *, size_t);
     uint32_t (*fold_response)(uint8_t *, size_t, const uint8_t *, size_t, uint32_t *);
     uint32_t (*seal)(uint32_t, uint16_t, uint32_t, uint16_t, const uint8_t *, size_t, uint64_t, uint64_t *, uint8_t *, size_t,
@@ -78,7 +78,7 @@ static uint32_t perform(const struct functions *by, const struct call *c, struct
 {
     size_t key = c->key.len, chain = c->chain.len, n = c->message.len;
     switch (c->function) {
-    case DERIVE: return by->derive(c->dialect, o->key, key, o->chain, chain, o->message, n);
+    case DERIVE: return by->derive(c->dialect, c->cipher, o->key, key, o->chain, chain, o->message, n);
     case FOLD: return by->fold(o->chain, chain, o->message, n);
     case FOLD_RESPONSE: return by->fold_response(o->chain, chain, o->message, n, o->folded);
     case SEAL: return by->seal(c->role, c->dialect, c->encryption, c->cipher, o->key, key, c->id, o->counter, o->message, n, o->headers);

@@ -1,8 +1,8 @@
 /*
- * Writes a capture for tshark: four connections with the published negotiation and session setup, and then messages that the
+ * Writes a capture for tshark: six connections with the published negotiation and session setup, and then messages that the
  * library sealed under the keys that it derived, and others in clear that it signed. 3.1.1 with GCM and with CCM are the published sessions, in which the published
- * sealed messages are sent too; for 3.0 and 3.0.2 the dialect in the negotiate response and the session's id are replaced. On 3.0.2
- * the library is asked for cipher 2, and must seal with CCM all the same.
+ * sealed messages are sent too; for 3.0 and 3.0.2 the dialect in the negotiate response and the session's id are replaced, and for the
+ * ciphers of 256 bits the cipher there. On 3.0.2 the library is asked for cipher 2, and must seal with CCM all the same.
  *
  * Usage: capture PCAP LIST. The list has a line for each session (its id as on the wire, its session key), one for each sealed message
  * (its inner bytes), in hexadecimal, and one for each message in clear (good or bad: whether its signature is right).
@@ -24,7 +24,7 @@ struct conversation {
     uint64_t id;
     const struct fold *setup; /* its six messages */
     const struct bytes *material;
-    uint8_t chain[64], keys[64];
+    uint8_t chain[64], keys[96];
     uint64_t counters[2];
     uint32_t sequence[2];
 };
@@ -109,6 +109,14 @@ static void list_session(const struct conversation *s)
 
 /* ---- a session: its setup, sent and folded; then sealed messages */
 
+/* The one cipher of a negotiate response: in the list of contexts, the data behind the count of that of type 2 (MS-SMB2 2.2.4.1.2). */
+static uint8_t *cipher_of_response(uint8_t *message)
+{
+    uint8_t *context = message + message[HEADER + 60] + 256 * message[HEADER + 61];
+    while (context[0] != 2) context += (8 + context[2] + 7) / 8 * 8;
+    return context + 8 + 2;
+}
+
 static void set_up(struct conversation *s)
 {
     uint8_t message[1000];
@@ -117,12 +125,15 @@ static void set_up(struct conversation *s)
         const struct bytes *m = &s->setup[i].message;
         memcpy(message, m->at, m->len);
         if (i == 1) put(message + HEADER + 4, s->dialect, 2);
+        if (i == 1 && s->cipher > 2) put(cipher_of_response(message), s->cipher, 2);
         if (i >= 3) put(message + 40, s->id, 8);
         if (i % 2 == 1 && i > 1) expect(smb3seal_fold_response(s->chain, 64, message, m->len, &folded) == 0, "folding", i);
         else expect(smb3seal_fold(s->chain, 64, message, m->len) == 0, "folding", i);
         send(s, i % 2 == 0 ? REQUEST : RESPONSE, message, m->len);
     }
-    expect(smb3seal_derive(s->dialect, s->material->at, s->material->len, s->chain, 64, s->keys, 64) == 0, "deriving", s->dialect);
+    size_t n = smb3seal_keys_bytes(s->dialect, s->cipher);
+    uint32_t r = smb3seal_derive(s->dialect, s->cipher, s->material->at, s->material->len, s->chain, 64, s->keys, n);
+    expect(r == 0, "deriving", s->dialect);
     list_session(s);
 }
 
@@ -130,10 +141,11 @@ static void seal_and_send(struct conversation *s, enum direction d, const uint8_
 {
     static uint8_t message[LONGEST];
     uint64_t headers;
-    size_t key = d == REQUEST ? SMB3SEAL_CLIENT_TO_SERVER_KEY : SMB3SEAL_SERVER_TO_CLIENT_KEY;
+    size_t key_len = smb3seal_cipher_key_bytes(s->dialect, s->cipher), key = SMB3SEAL_CLIENT_TO_SERVER_KEY + (d == REQUEST ? 0 : key_len);
     uint32_t role = d == REQUEST ? SMB3SEAL_CLIENT : SMB3SEAL_SERVER;
     memcpy(message + TRANSFORM, inner, n);
-    uint32_t r = smb3seal_seal(role, s->dialect, 1, s->cipher, s->keys + key, 16, s->id, &s->counters[d], message, TRANSFORM + n, &headers);
+    uint32_t r = smb3seal_seal(role, s->dialect, 1, s->cipher, s->keys + key, key_len, s->id, &s->counters[d], message, TRANSFORM + n,
+                               &headers);
     expect(r == 0, "sealing", n);
     list_inner(inner, n);
     send(s, d, message, TRANSFORM + n);
@@ -208,6 +220,8 @@ int main(int argc, char **argv)
         {.dialect = 0x0311, .cipher = 1, .port = 50002, .id = transforms[4].id, .setup = folds + SETUP_MESSAGES, .material = ccm},
         {.dialect = 0x0300, .cipher = 1, .port = 50003, .id = 0x0300000000000003, .setup = folds, .material = gcm},
         {.dialect = 0x0302, .cipher = 2, .port = 50004, .id = 0x0302000000000004, .setup = folds, .material = ccm},
+        {.dialect = 0x0311, .cipher = 3, .port = 50005, .id = 0x0311000000000005, .setup = folds, .material = gcm},
+        {.dialect = 0x0311, .cipher = 4, .port = 50006, .id = 0x0311000000000006, .setup = folds, .material = ccm},
     };
     if (argc != 3 || (pcap = fopen(argv[1], "wb")) == NULL || (list = fopen(argv[2], "w")) == NULL) return 2;
     begin(1, argv);

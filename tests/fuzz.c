@@ -28,9 +28,9 @@ static uint64_t take(size_t n)
 static void choose_lengths(struct call *c, uint64_t change)
 {
     size_t other = change & 63;
-    if (change >> 6 == 1 && c->function != DERIVE) c->key.len = other % 33;
+    if (change >> 6 == 1 && c->function != DERIVE) c->key.len = other;
     if (change >> 6 == 2) c->chain.len = 32 + other;
-    if (change >> 6 == 3 && c->function == DERIVE) c->message.len = 32 + other;
+    if (change >> 6 == 3 && c->function == DERIVE) c->message.len = 40 + other;
 }
 
 /* The session's id is often that of the first inner header, or of the transform header: else nothing would be accepted. */
@@ -72,16 +72,17 @@ int LLVMFuzzerTestOneInput(const uint8_t *data, size_t size)
     unsigned kind = (unsigned)take(1), choice;
     struct call c = plain_call((kind & 0x7F) % FUNCTIONS, 0, MOST);
     uint64_t dialect = take(2), cipher = take(2);
-    c.dialect = dialect & 0x8000 ? (uint16_t)dialect : dialects[dialect % 4];
+    uint16_t chosen = dialect & 0x8000 ? (uint16_t)dialect : dialects[dialect % 4];
     c.role = (dialect >> 8 & 15) == 15 ? (uint32_t)cipher : dialect >> 8 & 1;
-    c.cipher = cipher & 0x8000 ? (uint16_t)cipher : (uint16_t)(cipher % 4);
+    c.cipher = cipher & 0x8000 ? (uint16_t)cipher : (uint16_t)(cipher % 6);
+    set_dialect(&c, chosen);
     uint64_t lengths = take(1);
     c.id = take(8);
     c.counter = take(8);
     choice = (unsigned)take(1);
     c.encryption = choice != 64;
     if (choice & 128) c.counter = UINT64_MAX - c.counter % 3;
-    c.message.len = c.function == DERIVE ? 64 : left;
+    c.message.len = c.function == DERIVE ? 32 + 2 * key_bytes(c.dialect, c.cipher) : left;
     if (c.function == DERIVE) c.key = (struct lent){(uint8_t *)input, left};
     else memcpy(c.message.at, input, left);
     choose_lengths(&c, lengths);

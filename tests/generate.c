@@ -17,8 +17,8 @@ uint16_t any_dialect(void)
 
 uint16_t any_cipher(void)
 {
-    static const uint16_t near[] = {0, 3, 4, 0x0100, 0x0101, 0x0201, 0xFFFF};
-    if (chance(90)) return (uint16_t)(1 + below(2));
+    static const uint16_t near[] = {0, 5, 6, 0x0100, 0x0103, 0x0204, 0xFFFF};
+    if (chance(92)) return (uint16_t)(1 + below(4));
     return chance(70) ? near[below(COUNT(near))] : (uint16_t)number();
 }
 
@@ -163,7 +163,7 @@ static void damage_sealed(struct call *c)
     else if (field == COUNT(fields)) flip(c->message.at + TRANSFORM, c->message.len - TRANSFORM);
     else if (field == COUNT(fields) + 1) c->message.len -= below(c->message.len + 1);
     else if (field == COUNT(fields) + 2) c->message.len += 1 + below(HEADER - 1);
-    else if (field == COUNT(fields) + 3) flip(c->key.at, 16);
+    else if (field == COUNT(fields) + 3) flip(c->key.at, c->key.len);
     else c->cipher = any_cipher();
 }
 
@@ -188,11 +188,29 @@ static void make_folding(struct call *c)
     if (chance(10)) flip(c->message.at + 8, 4);
 }
 
+size_t any_material_length(void)
+{
+    if (chance(60)) return chance(50) ? 16 : 32;
+    if (chance(15)) return MATERIAL_LIMIT - 1 + below(3);
+    return chance(95) ? 1 + below(200) : 0;
+}
+
+/* The place for the keys is now and then as long as one for ciphers of the other key size. */
 static void make_derivation(struct call *c)
 {
-    c->key.len = chance(60) ? 16 : chance(95) ? below(33) : 0;
-    c->message.len = any_length_like(64);
+    size_t right = 32 + 2 * key_bytes(c->dialect, c->cipher);
+    c->key.len = any_material_length();
+    c->message.len = chance(96) ? any_length_like(right) : 160 - right;
+    fill(c->key.at, c->key.len);
     fill(c->message.at, c->message.len);
+}
+
+/* The length of a cipher key or of a signing key, at times the other one. */
+static size_t any_key_length(const struct call *c)
+{
+    int under_cipher = c->function == SEAL || c->function == OPEN;
+    if (under_cipher && chance(2)) return chance(50) ? 16 : 32;
+    return any_length_like(under_cipher ? key_bytes(c->dialect, c->cipher) : 16);
 }
 
 void generate_message(struct call *c)
@@ -222,20 +240,20 @@ struct call generate(void)
     static const enum function functions[] = {DERIVE, FOLD, FOLD_RESPONSE, SEAL, SEAL, SEAL,   OPEN,   OPEN,
                                               OPEN,   OPEN, OPEN,          OPEN, SIGN, VERIFY, VERIFY, VERIFY};
     struct call c = plain_call(functions[below(COUNT(functions))], any_cipher(), HEADER);
-    c.dialect = any_dialect();
+    set_dialect(&c, any_dialect());
     c.role = any_role();
     c.encryption = any_switch();
     c.id = chance(80) ? number() : below(3);
     c.counter = any_counter();
     c.headers = number();
     c.folded = (uint32_t)number();
-    fill(c.key.at, 32);
+    fill(c.key.at, 64);
     fill(c.chain.at, 128);
     if (c.function == SEAL || c.function == OPEN) generate_message(&c);
     if (c.function == FOLD || c.function == FOLD_RESPONSE) make_folding(&c);
     if (c.function == SIGN || c.function == VERIFY) make_signing(&c);
     if (c.function == DERIVE) make_derivation(&c);
-    else c.key.len = any_length_like(16);
+    else c.key.len = any_key_length(&c);
     c.chain.len = any_length_like(64);
     return c;
 }

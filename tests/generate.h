@@ -14,6 +14,7 @@ uint16_t any_dialect(void);
 uint16_t any_cipher(void);
 uint64_t any_counter(void);
 size_t any_length_like(size_t right);
+size_t any_material_length(void);
 
 /* A message to be sealed or opened, as the call's function says, for its id and, where it is opened, its key. */
 void generate_message(struct call *c);

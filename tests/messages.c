@@ -2,6 +2,7 @@
 
 #include <string.h>
 
+#include "model.h"
 #include "openssl_aead.h"
 
 void put(uint8_t *at, uint64_t value, size_t n)
@@ -25,10 +26,22 @@ void mark_as_notice(uint8_t *header)
     put(header + 40, 0, 8);
 }
 
+size_t key_bytes(uint16_t dialect, uint16_t cipher)
+{
+    return model_wide(dialect, cipher) ? 32 : 16;
+}
+
+void set_dialect(struct call *c, uint16_t dialect)
+{
+    c->dialect = dialect;
+    if (c->function == SEAL || c->function == OPEN) c->key.len = key_bytes(dialect, c->cipher);
+}
+
 struct call plain_call(enum function function, uint16_t cipher, size_t n)
 {
-    static uint8_t key[32], chain[128], message[ROOM + HEADER];
-    for (size_t i = 0; i < sizeof key; i++) key[i] = (uint8_t)(7 * i + 1);
+    static uint8_t key[KEY_ROOM], chain[128], message[ROOM + HEADER];
+    int under_cipher = function == SEAL || function == OPEN;
+    for (size_t i = 0; i < 128; i++) key[i] = (uint8_t)(7 * i + 1);
     memset(chain, 0x33, sizeof chain);
     memset(message, 0xAA, TRANSFORM + n);
     put_header(message + TRANSFORM, 0, 0, SESSION);
@@ -39,7 +52,7 @@ struct call plain_call(enum function function, uint16_t cipher, size_t n)
         .cipher = cipher,
         .encryption = 1,
         .id = SESSION,
-        .key = {key, 16},
+        .key = {key, under_cipher ? key_bytes(0x0311, cipher) : 16},
         .chain = {chain, 64},
         .message = {message, TRANSFORM + n},
         .counter = 3,
@@ -62,7 +75,7 @@ void put_transform(const struct call *c, uint64_t nonce)
 void forge(const struct call *c)
 {
     uint8_t *at = c->message.at;
-    int gcm = c->dialect == 0x0311 && c->cipher == 2;
-    struct aead how = {c->key.at, at + 20, gcm ? 12 : 11, at + 20, 32};
+    int nonce_len = model_gcm(c->dialect, c->cipher) ? 12 : 11;
+    struct aead how = {c->key.at, key_bytes(c->dialect, c->cipher), at + 20, nonce_len, at + 20, 32};
     openssl_seal(&how, at + TRANSFORM, c->message.len - TRANSFORM, at + 4);
 }

@@ -7,7 +7,7 @@
 
 #include "openssl_aead.h"
 
-enum { TRANSFORM = 52, HEADER = 64, LIMIT = 8454144, RELATED = 4, SIGNED = 8, CLIENT = 0, SERVER = 1 };
+enum { TRANSFORM = 52, HEADER = 64, LIMIT = 8454144, MATERIAL_LIMIT = 65536, RELATED = 4, SIGNED = 8, CLIENT = 0, SERVER = 1 };
 
 static uint64_t little_endian(const uint8_t *at, size_t n)
 {
@@ -40,8 +40,8 @@ static size_t append(uint8_t *to, size_t at, const void *from, size_t n)
     return at + n;
 }
 
-/* SP 800-108 in counter mode, of which one round is enough. */
-static void derive_key(const uint8_t session_key[16], struct text label, struct text context, uint8_t derived[16])
+/* SP 800-108 in counter mode, of which one round is enough. The length in bits, 128 or 256, stands at the end, high byte first. */
+static void derive_key(struct text key, struct text label, struct text context, uint8_t *derived, size_t derived_len)
 {
     uint8_t input[128], code[32];
     unsigned int code_len = sizeof code;
@@ -49,9 +49,9 @@ static void derive_key(const uint8_t session_key[16], struct text label, struct 
     n = append(input, n, label.at, label.len);
     n = append(input, n, "\0", 1);
     n = append(input, n, context.at, context.len);
-    n = append(input, n, "\0\0\0\x80", 4);
-    if (HMAC(EVP_sha256(), session_key, 16, input, n, code, &code_len) == NULL) abort();
-    memcpy(derived, code, 16);
+    n = append(input, n, derived_len == 32 ? "\0\0\1\0" : "\0\0\0\x80", 4);
+    if (HMAC(EVP_sha256(), key.at, (int)key.len, input, n, code, &code_len) == NULL) abort();
+    memcpy(derived, code, derived_len);
 }
 
 static int known(uint16_t dialect)
@@ -59,18 +59,28 @@ static int known(uint16_t dialect)
     return dialect == 0x0300 || dialect == 0x0302 || dialect == 0x0311;
 }
 
-uint32_t model_derive(uint16_t dialect, const uint8_t *material, size_t material_len, const uint8_t *chain, size_t chain_len,
-                      uint8_t *keys, size_t keys_len)
+int model_wide(uint16_t dialect, uint16_t cipher)
 {
-    uint8_t session_key[16] = {0};
+    return dialect == 0x0311 && (cipher == 3 || cipher == 4);
+}
+
+/* Where 32 bytes long, the two cipher keys come from the whole material, and not from the session key. */
+uint32_t model_derive(uint16_t dialect, uint16_t cipher, const uint8_t *material, size_t material_len, const uint8_t *chain,
+                      size_t chain_len, uint8_t *keys, size_t keys_len)
+{
+    int wide = model_wide(dialect, cipher);
+    char session_key[16] = {0};
+    const struct text from_16 = {session_key, 16}, from_all = {(const char *)material, material_len};
     struct text chain_text = {(const char *)chain, chain_len};
-    if (chain_len != 64 || keys_len != 64) return 40;
+    if (chain_len != 64 || keys_len != (wide ? 96 : 64)) return 40;
     if (!known(dialect)) return 18;
-    if (material_len == 0) return 19;
+    if (material_len == 0 || (wide && material_len > MATERIAL_LIMIT)) return 19;
     memcpy(session_key, material, material_len < 16 ? material_len : 16);
-    for (size_t i = 0; i < 4; i++) {
-        if (dialect == 0x0311) derive_key(session_key, labels_311[i], chain_text, keys + 16 * i);
-        else derive_key(session_key, labels_30[i], contexts_30[i], keys + 16 * i);
+    for (size_t i = 0, n; i < 4; i++, keys += n) {
+        int long_key = wide && i >= 2;
+        n = long_key ? 32 : 16;
+        if (dialect == 0x0311) derive_key(long_key ? from_all : from_16, labels_311[i], chain_text, keys, n);
+        else derive_key(from_16, labels_30[i], contexts_30[i], keys, n);
     }
     return 0;
 }
@@ -140,19 +150,24 @@ static uint32_t walk(const uint8_t *inner, size_t n, uint64_t id, int from_serve
 
 uint32_t model_first_tests(uint32_t role, uint16_t dialect, uint32_t encryption, uint16_t cipher, size_t key_len, size_t message_len)
 {
-    if (key_len != 16) return 40;
+    if (key_len != (model_wide(dialect, cipher) ? 32 : 16)) return 40;
     if (role > SERVER || !known(dialect) || encryption == 0 || cipher == 0) return 1;
-    if (dialect == 0x0311 && cipher != 1 && cipher != 2) return 1;
+    if (dialect == 0x0311 && cipher > 4) return 1;
     if (message_len <= TRANSFORM) return 2;
     if (message_len - TRANSFORM > LIMIT) return 3;
     return 0;
 }
 
+int model_gcm(uint16_t dialect, uint16_t cipher)
+{
+    return dialect == 0x0311 && (cipher == 2 || cipher == 4);
+}
+
 /* The nonce and the 32 bytes of authenticated data begin at byte 20. */
 static struct aead protection(uint16_t dialect, uint16_t cipher, const uint8_t *key, const uint8_t *message)
 {
-    int gcm = dialect == 0x0311 && cipher == 2;
-    return (struct aead){key, message + 20, gcm ? 12 : 11, message + 20, 32};
+    size_t key_len = model_wide(dialect, cipher) ? 32 : 16;
+    return (struct aead){key, key_len, message + 20, model_gcm(dialect, cipher) ? 12 : 11, message + 20, 32};
 }
 
 uint32_t model_seal(uint32_t role, uint16_t dialect, uint32_t encryption, uint16_t cipher, const uint8_t *key, size_t key_len,
@@ -181,7 +196,7 @@ uint32_t model_transform_tests(uint16_t dialect, uint16_t cipher, const uint8_t 
     static const uint8_t clean[4];
     if (memcmp(message, "\xFDSMB", 4) != 0) return 4;
     if (little_endian(message + 42, 2) != 1) return 5;
-    return dialect == 0x0311 && cipher == 2 && memcmp(message + 32, clean, 4) != 0 ? 29 : 0;
+    return model_gcm(dialect, cipher) && memcmp(message + 32, clean, 4) != 0 ? 29 : 0;
 }
 
 uint64_t model_session_id(const uint8_t *message)

@@ -1,9 +1,13 @@
 #include "mutants.h"
 
+#include <openssl/evp.h>
+#include <openssl/hmac.h>
 #include <stdlib.h>
 #include <string.h>
 
 #include "../include/smb3seal.h"
+#include "messages.h"
+#include "model.h"
 #include "openssl_aead.h"
 
 int fault(const char *name)
@@ -34,7 +38,8 @@ int marks_of(const uint8_t *header)
 
 void leave_plaintext(uint16_t dialect, uint16_t cipher, const uint8_t *key, uint8_t *message, size_t message_len)
 {
-    struct aead how = {key, message + 20, dialect == 0x0311 && cipher == 2 ? 12 : 11, message + 20, 32};
+    int nonce_len = model_gcm(dialect, cipher) ? 12 : 11;
+    struct aead how = {key, key_bytes(dialect, cipher), message + 20, nonce_len, message + 20, 32};
     openssl_open(&how, message + 52, message_len - 52, message + 4);
 }
 
@@ -47,19 +52,69 @@ int sealed_marks(uint16_t dialect, uint16_t cipher, const uint8_t *key, const ui
     return marks_of(copy + 52);
 }
 
-uint32_t __real_smb3seal_derive(uint16_t, const uint8_t *, size_t, const uint8_t *, size_t, uint8_t *, size_t);
-uint32_t __wrap_smb3seal_derive(uint16_t dialect, const uint8_t *material, size_t material_len, const uint8_t *chain,
+/* A key of 3.1.1, with the length in bits that stands at the end of what is hashed. */
+static void derive_key(const uint8_t *material, size_t material_len, const char *label, const uint8_t *chain, uint8_t length,
+                       uint8_t *key, size_t n)
+{
+    uint8_t input[128] = {0, 0, 0, 1}, code[32];
+    size_t at = 4 + strlen(label) + 1;
+    memcpy(input + 4, label, strlen(label));
+    memcpy(input + at + 1, chain, 64);
+    input[at + 65 + 2] = length == 0;
+    input[at + 65 + 3] = length;
+    HMAC(EVP_sha256(), material, (int)material_len, input, at + 65 + 4, code, NULL);
+    memcpy(key, code, n);
+}
+
+/* Cipher keys of 32 bytes as a wrong library derives them: `session_key` is the first 16 bytes of the material, padded. */
+static void mistake_wide_keys(const uint8_t *material, size_t n, const uint8_t *chain, uint8_t *keys)
+{
+    uint8_t session_key[16] = {0};
+    memcpy(session_key, material, n < 16 ? n : 16);
+    if (fault("derive: wide keys come from the session key")) {
+        derive_key(session_key, 16, "SMBC2SCipherKey", chain, 0, keys + 32, 32);
+        derive_key(session_key, 16, "SMBS2CCipherKey", chain, 0, keys + 64, 32);
+    }
+    if (fault("derive: wide keys close with 128 bits")) derive_key(material, n, "SMBC2SCipherKey", chain, 0x80, keys + 32, 32);
+    if (fault("derive: one wide key comes from the session key")) derive_key(session_key, 16, "SMBS2CCipherKey", chain, 0, keys + 64, 32);
+    if (fault("derive: the signing key comes from all the material")) derive_key(material, n, "SMBSigningKey", chain, 0x80, keys, 16);
+    if (fault("derive: an application key closes with 256 bits")) derive_key(session_key, 16, "SMBAppKey", chain, 0, keys + 16, 16);
+    if (fault("derive: a wide key ends in zeros")) memset(keys + 48, 0, 16);
+    if (fault("derive: 64 bytes of material count") && n > 64) derive_key(material, 64, "SMBC2SCipherKey", chain, 0, keys + 32, 32);
+}
+
+/* The cipher as a wrong library reads it. */
+static uint16_t mistake_cipher(uint16_t dialect, uint16_t cipher, size_t keys_len)
+{
+    if (fault("derive: the cipher is ignored")) return 0;
+    if (fault("derive: cipher 3 is narrow") && cipher == 3) return 1;
+    if (fault("derive: cipher 5 is wide") && cipher == 5) return 4;
+    if (fault("derive: the cipher's low byte")) return cipher & 0xFF;
+    if (fault("derive: the place says which keys")) return keys_len == 96 && dialect == 0x0311 ? 4 : 0;
+    return cipher;
+}
+
+uint32_t __real_smb3seal_derive(uint16_t, uint16_t, const uint8_t *, size_t, const uint8_t *, size_t, uint8_t *, size_t);
+uint32_t __wrap_smb3seal_derive(uint16_t dialect, uint16_t cipher, const uint8_t *material, size_t material_len, const uint8_t *chain,
                                 size_t chain_len, uint8_t *keys, size_t keys_len)
 {
     uint8_t swap[16];
+    int wide = model_wide(dialect, cipher), old = dialect == 0x0300 || dialect == 0x0302;
+    if (fault("derive: wide below 3.1.1") && old && (cipher == 3 || cipher == 4) && keys_len != 96) return 40;
+    if (fault("derive: material over 65,536 bytes is taken") && wide && material_len > 65536) material_len = 65536;
+    if (fault("derive: 65,536 bytes of material are refused") && wide && material_len == 65536 && keys_len == 96) return 19;
+    if (fault("derive: long material is refused for any cipher") && material_len > 65536 && keys_len == 64) return 19;
+    cipher = mistake_cipher(dialect, cipher, keys_len);
     if (fault("derive: the place's length is not tested") && keys_len > 64) keys_len = 64;
     if (fault("derive: 19 before 18") && chain_len == 64 && keys_len == 64 && material_len == 0) return 19;
     if (fault("derive: material is taken as 32 bits long")) material_len = (uint32_t)material_len;
     if (fault("derive: a byte before the chain is read")) look(chain - 1);
     if (fault("derive: the chain is written")) touch(chain);
-    uint32_t r = __real_smb3seal_derive(dialect, material, material_len, chain, chain_len, keys, keys_len);
+    uint32_t r = __real_smb3seal_derive(dialect, cipher, material, material_len, chain, chain_len, keys, keys_len);
     if (r != 0) return r;
+    if (wide) mistake_wide_keys(material, material_len, chain, keys);
     if (fault("derive: a wrong bit")) keys[63] ^= 1;
+    if (fault("derive: a wrong bit of a wide key") && wide) keys[95] ^= 1;
     if (fault("derive: 17 bytes of material count") && material_len > 16) keys[0] ^= material[16];
     if (fault("derive: the cipher keys in the other order")) {
         memcpy(swap, keys + 32, 16);
@@ -103,6 +158,25 @@ static uint32_t mistake_sealing_role(uint32_t role)
     return role;
 }
 
+/* Cipher and key as a wrong library reads them, sealing and opening. */
+static void mistake_key(uint16_t dialect, uint16_t *cipher, size_t *key_len)
+{
+    int wide = model_wide(dialect, *cipher);
+    if (fault("key: the first half of a wide key") && wide && *key_len == 32) {
+        *cipher -= 2;
+        *key_len = 16;
+    }
+    if (fault("key: 32 bytes for any cipher") && !wide && *key_len == 32) *key_len = 16;
+    if (fault("key: 16 bytes for any cipher") && wide && *key_len == 16) *cipher -= 2;
+    if (fault("key: 24 bytes for a wide key") && wide && *key_len == 24) *key_len = 32;
+    if (fault("key: cipher 5 on 3.1.1") && dialect == 0x0311 && *cipher == 5) *cipher = 1;
+    if (fault("key: cipher 3 is a GCM one") && wide && *cipher == 3) *cipher = 4;
+    if (fault("key: no cipher of 256 bits") && wide) {
+        *cipher = 5;
+        if (*key_len == 32) *key_len = 16;
+    }
+}
+
 /* The first two headers of an inner message, or NULL; a wrong library takes other marks for a notice, or tests less at one. */
 static uint32_t mistake_walk(uint32_t r, uint32_t role, const uint8_t *first, const uint8_t *second)
 {
@@ -135,6 +209,8 @@ uint32_t __wrap_smb3seal_seal(uint32_t role, uint16_t dialect, uint32_t encrypti
     if (fault("seal: the role is tested before 40") && role > 1) return 1;
     role = mistake_sealing_role(role);
     if (fault("seal: GCM below 3.1.1") && dialect < 0x0311 && cipher == 2) dialect = 0x0311;
+    if (fault("seal: wide below 3.1.1") && dialect >= 0x0300 && cipher > 2 && cipher < 5) dialect = 0x0311;
+    mistake_key(dialect, &cipher, &key_len);
     if (fault("seal: 17 is answered one seal too early") && *counter == UINT64_MAX - 1 && key_len == 16) return 17;
     if (fault("seal: the message is taken as 32 bits long")) message_len = (uint32_t)message_len;
     if (fault("seal: a byte before the message is read")) look(message - 1);
@@ -165,7 +241,7 @@ static uint32_t mistake_opening_role(uint32_t role)
 static int dirty(uint16_t cipher, const uint8_t *message, size_t message_len)
 {
     static const uint8_t clean[4];
-    return cipher == 2 && message_len > 52 && memcmp(message + 32, clean, 4) != 0;
+    return (cipher == 2 || cipher == 4) && message_len > 52 && memcmp(message + 32, clean, 4) != 0;
 }
 
 /* 29 as a wrong library answers it. */
@@ -186,6 +262,7 @@ uint32_t __wrap_smb3seal_open(uint32_t role, uint16_t dialect, uint32_t encrypti
 {
     if (fault("open: the role is tested before 40") && role > 1) return 1;
     role = mistake_opening_role(role);
+    mistake_key(dialect, &cipher, &key_len);
     if (fault("open: does nothing")) return 0;
     if (fault("open: refuses everything")) return 9;
     if (fault("open: Reserved is not in the tag") && message_len > 52) message[40] = message[41] = 0;
@@ -201,6 +278,7 @@ uint32_t __wrap_smb3seal_open(uint32_t role, uint16_t dialect, uint32_t encrypti
     if (fault("open: 10 before 9") && r == 9 && message[36] != (uint8_t)(message_len - 52)) return 10;
     if (fault("open: 16 for 15") && r == 15) return 16;
     if (r == 29) r = mistake_dirty(r, id, message);
+    if (fault("open: 9 for 29 with cipher 4") && r == 29 && cipher == 4) return 9;
     int marks = r == 14 && role == SMB3SEAL_CLIENT ? sealed_marks(dialect, cipher, key, message, message_len) : 0;
     if (fault("open: a notice by Command and MessageId") && marks == (COMMAND | MESSAGE_ID)) return 0;
     if (fault("open: a notice by Command and SessionId") && marks == (COMMAND | SESSION_ID)) return 0;

@@ -7,8 +7,9 @@
 
 #include "check.h"
 #include "messages.h"
+#include "model.h"
 
-enum { INNER = 200, GCM = 2 };
+enum { INNER = 200, CIPHERS = 4 };
 
 /* ---- sealing and opening: faults in the order in which they are tested */
 
@@ -78,7 +79,7 @@ static void every_set(enum function function, uint16_t cipher, int where)
     uint32_t numbers[COUNT(faults)];
     size_t count = 0;
     for (size_t i = 0; i < COUNT(faults); i++)
-        if (faults[i].where & where && (faults[i].number != 29 || cipher == GCM)) numbers[count++] = faults[i].number;
+        if (faults[i].where & where && (faults[i].number != 29 || model_gcm(0x0311, cipher))) numbers[count++] = faults[i].number;
     for (uint32_t set = 0; set < (uint32_t)1 << count; set++) one_set(function, cipher, numbers, count, set);
 }
 
@@ -99,20 +100,22 @@ static void sums(uint16_t cipher)
 
 /* ---- deriving and folding */
 
-static void derivation_faults(void)
+static void derivation_faults(uint16_t cipher)
 {
     static const uint16_t dialects[] = {0x0300, 0x0302, 0x0311, 0x0210};
-    static const size_t materials[] = {0, 1, 15, 16, 17, 32}, lengths[] = {0, 16, 63, 64, 65, 128};
+    static const size_t materials[] = {0, 1, 15, 16, 17, 32, KEY_ROOM}, lengths[] = {0, 16, 63, 64, 65, 95, 96, 97, 128};
     for (size_t set = 0; set < COUNT(dialects) * COUNT(materials) * COUNT(lengths) * COUNT(lengths); set++) {
         size_t rest = set;
-        struct call c = plain_call(DERIVE, 0, INNER);
+        struct call c = plain_call(DERIVE, cipher, INNER);
         begin_case(set);
         c.dialect = dialects[rest % COUNT(dialects)];
         c.key.len = materials[(rest /= COUNT(dialects)) % COUNT(materials)];
         c.chain.len = lengths[(rest /= COUNT(materials)) % COUNT(lengths)];
         c.message.len = lengths[rest / COUNT(lengths)];
-        int wrong_length = c.chain.len != 64 || c.message.len != 64;
-        expect_answer(&c, wrong_length ? 40 : c.dialect == 0x0210 ? 18 : c.key.len == 0 ? 19 : 0, "a derivation");
+        int wide = c.dialect == 0x0311 && (cipher == 3 || cipher == 4);
+        int wrong_length = c.chain.len != 64 || c.message.len != (wide ? 96 : 64);
+        int bad_material = c.key.len == 0 || (wide && c.key.len > MATERIAL_LIMIT);
+        expect_answer(&c, wrong_length ? 40 : c.dialect == 0x0210 ? 18 : bad_material ? 19 : 0, "a derivation");
     }
 }
 
@@ -148,13 +151,13 @@ static void every_dialect(uint16_t cipher)
         int known = dialect == 0x0300 || dialect == 0x0302 || dialect == 0x0311;
         struct call c = plain_call(SEAL, cipher, HEADER);
         begin_case(dialect);
-        c.dialect = (uint16_t)dialect;
+        set_dialect(&c, (uint16_t)dialect);
         expect_answer(&c, known ? 0 : 1, "a dialect, sealing");
         c = plain_call(OPEN, cipher, HEADER);
-        c.dialect = (uint16_t)dialect;
+        set_dialect(&c, (uint16_t)dialect);
         expect_answer(&c, known ? 4 : 1, "a dialect, opening");
         c.function = DERIVE;
-        c.message.len = 64;
+        c.message.len = 32 + 2 * key_bytes(c.dialect, cipher);
         expect_answer(&c, known ? 0 : 18, "a dialect, deriving");
     }
 }
@@ -162,13 +165,23 @@ static void every_dialect(uint16_t cipher)
 static void every_cipher(uint16_t dialect)
 {
     for (uint32_t cipher = 0; cipher <= 0xFFFF; cipher++) {
-        int encrypts = cipher == 1 || cipher == 2 || (cipher != 0 && dialect != 0x0311);
+        int encrypts = cipher != 0 && (cipher <= 4 || dialect != 0x0311);
+        size_t n = dialect == 0x0311 && (cipher == 3 || cipher == 4) ? 32 : 16;
         struct call c = plain_call(SEAL, (uint16_t)cipher, HEADER);
         begin_case(cipher);
         c.dialect = dialect;
+        c.key.len = 48 - n;
+        expect_answer(&c, 40, "a cipher, sealing under a key of the other size");
+        c.key.len = n;
         expect_answer(&c, encrypts ? 0 : 1, "a cipher, sealing");
         c.function = OPEN;
         expect_answer(&c, encrypts ? 0 : 1, "a cipher, opening");
+        if (cipher >= 0x200 && dialect != 0x0311) continue;
+        c.function = DERIVE;
+        c.message.len = 160 - (32 + 2 * n);
+        expect_answer(&c, 40, "a cipher, deriving keys of the other size");
+        c.message.len = 32 + 2 * n;
+        expect_answer(&c, 0, "a cipher, deriving");
     }
 }
 
@@ -208,11 +221,11 @@ static void notice_of_every_role(enum function function, uint16_t cipher)
 /* Each value of each of the bytes 32..36, under a right tag: with GCM 29, also before 6; with CCM, which is used below 3.1.1 too, it opens. */
 static void every_nonce_end(uint16_t dialect, uint16_t cipher)
 {
-    int gcm = dialect == 0x0311 && cipher == GCM;
+    int gcm = dialect == 0x0311 && cipher % 2 == 0;
     for (uint32_t i = 0; i < 4 * 256; i++) {
         struct call c = plain_call(OPEN, cipher, HEADER);
         begin_case(i);
-        c.dialect = dialect;
+        set_dialect(&c, dialect);
         put_transform(&c, 1);
         c.message.at[32 + i / 256] = (uint8_t)i;
         forge(&c);
@@ -235,20 +248,22 @@ static void every_flags(uint16_t cipher)
     }
 }
 
-static void every_key_length(enum function function)
+static void every_key_length(enum function function, uint16_t dialect, uint16_t cipher)
 {
-    for (size_t n = 0; n <= 32; n++) {
-        struct call c = plain_call(function, 2, HEADER);
+    size_t right = dialect == 0x0311 && cipher > 2 ? 32 : 16;
+    for (size_t n = 0; n <= 65; n++) {
+        struct call c = plain_call(function, cipher, HEADER);
+        c.dialect = dialect;
         c.key.len = n;
         c.encryption = 0;
-        expect_answer(&c, n == 16 ? 1 : 40, "a key's length");
+        expect_answer(&c, n == right ? 1 : 40, "a key's length");
     }
 }
 
 int main(int argc, char **argv)
 {
     begin(argc, argv);
-    for (uint16_t cipher = 1; cipher <= 2; cipher++) {
+    for (uint16_t cipher = 1; cipher <= CIPHERS; cipher++) {
         sums(cipher);
         every_set(SEAL, cipher, AT_SEAL);
         every_set(OPEN, cipher, AT_OPEN);
@@ -260,14 +275,16 @@ int main(int argc, char **argv)
         for (enum function f = SEAL; f <= OPEN; f++) {
             every_role(f, cipher);
             notice_of_every_role(f, cipher);
+            every_key_length(f, 0x0300, cipher);
+            every_key_length(f, 0x0302, cipher);
+            every_key_length(f, 0x0311, cipher);
         }
+        derivation_faults(cipher);
     }
     every_cipher(0x0300);
     every_cipher(0x0302);
     every_cipher(0x0311);
-    every_key_length(SEAL);
-    every_key_length(OPEN);
-    derivation_faults();
+    derivation_faults(0);
     folding_faults(FOLD);
     folding_faults(FOLD_RESPONSE);
     statuses();

@@ -15,13 +15,21 @@ static void need(int ok, const char *what)
     abort();
 }
 
+static const EVP_CIPHER *cipher_of(const struct aead *how)
+{
+    int ccm = how->nonce_len == 11;
+    if (how->key_len == 32) return ccm ? EVP_aes_256_ccm() : EVP_aes_256_gcm();
+    need(how->key_len == 16, "take a key of another length");
+    return ccm ? EVP_aes_128_ccm() : EVP_aes_128_gcm();
+}
+
 /* The context up to the text: cipher, lengths of nonce and tag, key, nonce, length of the text (CCM alone), associated data. */
 static EVP_CIPHER_CTX *start(const struct aead *how, int sealing, size_t n, const uint8_t *tag)
 {
     int ccm = how->nonce_len == 11, out = 0, ok = 1;
     EVP_CIPHER_CTX *c = EVP_CIPHER_CTX_new();
     need(c != NULL, "make a context");
-    ok &= EVP_CipherInit_ex(c, ccm ? EVP_aes_128_ccm() : EVP_aes_128_gcm(), NULL, NULL, NULL, sealing);
+    ok &= EVP_CipherInit_ex(c, cipher_of(how), NULL, NULL, NULL, sealing);
     ok &= EVP_CIPHER_CTX_ctrl(c, EVP_CTRL_AEAD_SET_IVLEN, how->nonce_len, NULL);
     if (ccm || !sealing) ok &= EVP_CIPHER_CTX_ctrl(c, EVP_CTRL_AEAD_SET_TAG, 16, (void *)tag);
     ok &= EVP_CipherInit_ex(c, NULL, NULL, how->key, how->nonce, sealing);

@@ -1,6 +1,6 @@
 /*
- * AES-128-CCM and AES-128-GCM by OpenSSL, in place, with tags of 16 bytes. A nonce of 11 bytes means CCM, one of 12 GCM. And its
- * AES-128-CMAC.
+ * AES-CCM and AES-GCM by OpenSSL, in place, with keys of 16 or 32 bytes and tags of 16. A nonce of 11 bytes means CCM, one of 12 GCM.
+ * And its AES-128-CMAC.
  */
 #ifndef OPENSSL_AEAD_H
 #define OPENSSL_AEAD_H
@@ -10,6 +10,7 @@
 
 struct aead {
     const uint8_t *key;
+    size_t key_len;
     const uint8_t *nonce;
     int nonce_len;
     const uint8_t *aad;

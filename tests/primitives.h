@@ -20,13 +20,16 @@ uint32_t primitives_hmac(const uint8_t *key, size_t key_len, const uint8_t *mess
 /* derived: 16 bytes */
 uint32_t primitives_kdf(const uint8_t *key, size_t key_len, const uint8_t *label, size_t label_len,
                         const uint8_t *context, size_t context_len, uint8_t *derived, size_t derived_len);
-/* key: 16 bytes, prefix: 12; first counter at most 2^16; text in place, below 2^32 - 2^17 bytes */
+/* derived: 32 bytes */
+uint32_t primitives_kdf_32(const uint8_t *key, size_t key_len, const uint8_t *label, size_t label_len,
+                           const uint8_t *context, size_t context_len, uint8_t *derived, size_t derived_len);
+/* key: 16 or 32 bytes, prefix: 12; first counter at most 2^16; text in place, below 2^32 - 2^17 bytes */
 uint32_t primitives_ctr(const uint8_t *key, size_t key_len, const uint8_t *prefix, size_t prefix_len, uint16_t first,
                         uint8_t *text, size_t text_len);
 /* key and code: 16 bytes; the message is front and then back */
 uint32_t primitives_cmac(const uint8_t *key, size_t key_len, const uint8_t *front, size_t front_len, const uint8_t *back,
                          size_t back_len, uint8_t *code, size_t code_len);
-/* key: 16 bytes, nonce: 11, aad: 32, tag: 16; text in place, below 2^32 - 16 bytes */
+/* key: 16 or 32 bytes, nonce: 11, aad: 32, tag: 16; text in place, below 2^32 - 16 bytes */
 uint32_t primitives_ccm_seal(const uint8_t *key, size_t key_len, const uint8_t *nonce, size_t nonce_len,
                              const uint8_t *aad, size_t aad_len, uint8_t *text, size_t text_len, uint8_t *tag,
                              size_t tag_len);
@@ -34,7 +37,7 @@ uint32_t primitives_ccm_seal(const uint8_t *key, size_t key_len, const uint8_t *
 uint32_t primitives_ccm_open(const uint8_t *key, size_t key_len, const uint8_t *nonce, size_t nonce_len,
                              const uint8_t *aad, size_t aad_len, const uint8_t *tag, size_t tag_len, uint8_t *text,
                              size_t text_len, uint32_t *right);
-/* key: 16 bytes, nonce: 12, aad: any length below 2^32 - 16, tag: 16; text in place, below 2^32 - 16 bytes */
+/* key: 16 or 32 bytes, nonce: 12, aad: any length below 2^32 - 16, tag: 16; text in place, below 2^32 - 16 bytes */
 uint32_t primitives_gcm_seal(const uint8_t *key, size_t key_len, const uint8_t *nonce, size_t nonce_len,
                              const uint8_t *aad, size_t aad_len, uint8_t *text, size_t text_len, uint8_t *tag,
                              size_t tag_len);

@@ -1,6 +1,6 @@
 /*
- * The primitives against OpenSSL: every length up to 300 one by one, then random ones. Damaged tags, texts and associated data are
- * refused and change nothing; buffers of a wrong length get 40 and change nothing.
+ * The primitives against OpenSSL, with keys of both sizes: every length up to 300 one by one, then random ones. Damaged tags, texts and
+ * associated data are refused and change nothing; buffers of a wrong length get 40 and change nothing.
  *
  * Usage: primitives_test [SEED]
  */
@@ -66,7 +66,7 @@ static void cmac_codes(size_t n)
 }
 
 static int openssl_kdf(const uint8_t *key, size_t key_len, uint8_t *label, size_t label_len, uint8_t *context,
-                       size_t context_len, uint8_t *out)
+                       size_t context_len, uint8_t *out, size_t out_len)
 {
     EVP_KDF *kdf = EVP_KDF_fetch(NULL, "KBKDF", NULL);
     EVP_KDF_CTX *c = EVP_KDF_CTX_new(kdf);
@@ -79,31 +79,41 @@ static int openssl_kdf(const uint8_t *key, size_t key_len, uint8_t *label, size_
         OSSL_PARAM_construct_octet_string(OSSL_KDF_PARAM_INFO, context, context_len),
         OSSL_PARAM_construct_end(),
     };
-    int ok = c != NULL && EVP_KDF_derive(c, out, 16, params) == 1;
+    int ok = c != NULL && EVP_KDF_derive(c, out, out_len, params) == 1;
     EVP_KDF_CTX_free(c);
     EVP_KDF_free(kdf);
     return ok;
 }
 
+/* A derived key of 16 bytes, and one of 32: the closing length differs, so one is not the beginning of the other. */
 static void derivations(size_t key_len, size_t label_len, size_t context_len)
 {
-    uint8_t key[200], label[200], context[200], ours[16], theirs[16];
+    uint8_t key[200], label[200], context[200], ours[16], theirs[32], wide[33], before[33];
     fill(key, key_len);
     fill(label, label_len);
     fill(context, context_len);
     expect(primitives_kdf(key, key_len, label, label_len, context, context_len, ours, 16) == 0 &&
-               openssl_kdf(key, key_len, label, label_len, context, context_len, theirs) && memcmp(ours, theirs, 16) == 0,
+               openssl_kdf(key, key_len, label, label_len, context, context_len, theirs, 16) && memcmp(ours, theirs, 16) == 0,
            "SP 800-108", context_len);
+    expect(primitives_kdf_32(key, key_len, label, label_len, context, context_len, wide, 32) == 0 &&
+               openssl_kdf(key, key_len, label, label_len, context, context_len, theirs, 32) && memcmp(wide, theirs, 32) == 0 &&
+               memcmp(wide, ours, 16) != 0, "SP 800-108, 32 bytes", context_len);
+    fill(before, 33);
+    memcpy(wide, before, 33);
+    expect(primitives_kdf(key, key_len, label, label_len, context, context_len, wide, 32) == 40 &&
+               primitives_kdf_32(key, key_len, label, label_len, context, context_len, wide, 33) == 40 &&
+               primitives_kdf_32(key, key_len, label, label_len, context, context_len, wide, 16) == 40 &&
+               memcmp(wide, before, 33) == 0, "a derived key of the wrong length", context_len);
 }
 
 /* ---- counter mode */
 
-static void counter_mode(size_t n)
+static void counter_mode(size_t key_len, size_t n)
 {
     static uint8_t ours[LONGEST], theirs[LONGEST];
-    uint8_t key[16], counter[16];
+    uint8_t key[32], counter[16];
     uint16_t first = (uint16_t)number();
-    fill(key, 16);
+    fill(key, 32);
     fill(counter, 12);
     counter[12] = counter[13] = 0;
     counter[14] = (uint8_t)(first >> 8);
@@ -111,23 +121,25 @@ static void counter_mode(size_t n)
     fill(ours, n);
     memcpy(theirs, ours, n);
     EVP_CIPHER_CTX *c = EVP_CIPHER_CTX_new();
-    int out = 0, ok = EVP_EncryptInit_ex(c, EVP_aes_128_ctr(), NULL, key, counter);
+    int out = 0, ok = EVP_EncryptInit_ex(c, key_len == 32 ? EVP_aes_256_ctr() : EVP_aes_128_ctr(), NULL, key, counter);
     if (n > 0) ok &= EVP_EncryptUpdate(c, theirs, &out, theirs, (int)n);
     EVP_CIPHER_CTX_free(c);
-    expect(ok == 1 && primitives_ctr(key, 16, counter, 12, first, ours, n) == 0 && memcmp(ours, theirs, n) == 0, "counter mode", n);
+    expect(ok == 1 && primitives_ctr(key, key_len, counter, 12, first, ours, n) == 0 && memcmp(ours, theirs, n) == 0, "counter mode", n);
 }
 
 /* ---- authenticated encryption: CCM where the nonce has 11 bytes, GCM where it has 12 */
 
 static uint32_t seal(const struct aead *how, uint8_t *text, size_t n, uint8_t *tag, size_t tag_len)
 {
-    return (how->nonce_len == 11 ? primitives_ccm_seal : primitives_gcm_seal)(how->key, 16, how->nonce, (size_t)how->nonce_len,
+    return (how->nonce_len == 11 ? primitives_ccm_seal : primitives_gcm_seal)(how->key, how->key_len, how->nonce,
+                                                                             (size_t)how->nonce_len,
                                                                              how->aad, how->aad_len, text, n, tag, tag_len);
 }
 
 static uint32_t unseal(const struct aead *how, const uint8_t *tag, size_t tag_len, uint8_t *text, size_t n, uint32_t *right)
 {
-    return (how->nonce_len == 11 ? primitives_ccm_open : primitives_gcm_open)(how->key, 16, how->nonce, (size_t)how->nonce_len,
+    return (how->nonce_len == 11 ? primitives_ccm_open : primitives_gcm_open)(how->key, how->key_len, how->nonce,
+                                                                             (size_t)how->nonce_len,
                                                                              how->aad, how->aad_len, tag, tag_len, text, n, right);
 }
 
@@ -166,24 +178,29 @@ static void wrong_lengths(const struct aead *how, const uint8_t *tag, uint8_t *t
     static uint8_t sealed[LONGEST];
     uint8_t place[16];
     uint32_t right = 7;
-    struct aead other = *how;
+    struct aead other = *how, keys = *how;
+    const size_t sizes[] = {0, 15, 17, 24, 31};
     other.nonce_len = how->nonce_len == 11 ? 10 : 13;
     memcpy(sealed, text, n);
     memcpy(place, tag, 16);
     expect(seal(how, text, n, place, 15) == 40 && seal(&other, text, n, place, 16) == 40, "sealing with a wrong length", n);
     expect(unseal(how, tag, 15, text, n, &right) == 40 && unseal(&other, tag, 16, text, n, &right) == 40,
            "opening with a wrong length", n);
+    for (size_t i = 0; i < COUNT(sizes); i++) {
+        keys.key_len = sizes[i];
+        expect(seal(&keys, text, n, place, 16) == 40 && unseal(&keys, tag, 16, text, n, &right) == 40, "a key of no size", sizes[i]);
+    }
     expect(right == 7 && memcmp(text, sealed, n) == 0 && memcmp(place, tag, 16) == 0, "nothing changed", n);
 }
 
-static void sealing(int nonce_len, size_t aad_len, size_t n)
+static void sealing(size_t key_len, int nonce_len, size_t aad_len, size_t n)
 {
     static uint8_t plain[LONGEST], ours[LONGEST], theirs[LONGEST];
-    uint8_t key[16], nonce[13], aad[100], tag[16], their_tag[16];
-    struct aead how = {key, nonce, nonce_len, aad, aad_len};
+    uint8_t key[32], nonce[13], aad[100], tag[16], their_tag[16];
+    struct aead how = {key, key_len, nonce, nonce_len, aad, aad_len};
     const char *name = nonce_len == 11 ? "CCM" : "GCM";
     uint32_t right = 7;
-    fill(key, 16);
+    fill(key, 32);
     fill(nonce, 13);
     fill(aad, aad_len);
     fill(plain, n);
@@ -203,9 +220,11 @@ static void one_length(size_t n)
     codes(n % 200, n);
     cmac_codes(n);
     derivations(1 + n % 150, 1 + n % 17, 1 + n % 65);
-    counter_mode(n);
-    sealing(11, 32, n);
-    sealing(12, n % 64, n);
+    for (size_t key_len = 16; key_len <= 32; key_len += 16) {
+        counter_mode(key_len, n);
+        sealing(key_len, 11, 32, n);
+        sealing(key_len, 12, n % 64, n);
+    }
 }
 
 int main(int argc, char **argv)

@@ -1,7 +1,7 @@
 /*
  * Random calls of the functions, by the library and by the model: the same answers, and the same bytes and numbers in all that
- * was lent. At the end every number that a function can answer must have come up, but 3: lengths_test.c has it; and break notices that
- * are sealed and opened, often.
+ * was lent. At the end every number that a function can answer must have come up, but 3: lengths_test.c has it; and, often, break notices
+ * that are sealed and opened, each of the four ciphers on 3.1.1, and material that is too long for one of 256 bits.
  *
  * Usage: random_test [SEED [CASES [FIRST]]]: a case is made again by its number, with CASES 1.
  */
@@ -12,9 +12,9 @@
 #include "generate.h"
 #include "messages.h"
 
-enum { CASES = 200000, NUMBERS = 41, ENOUGH = 20000 };
+enum { CASES = 200000, NUMBERS = 41, ENOUGH = 20000, CIPHERS = 4 };
 
-static unsigned long seen[FUNCTIONS][NUMBERS], notices[FUNCTIONS];
+static unsigned long seen[FUNCTIONS][NUMBERS], notices[FUNCTIONS], done[FUNCTIONS][1 + CIPHERS], long_material;
 
 /* Whether the first inner header, where it is in clear, has another id than the call's. */
 static int names_another(const struct call *c)
@@ -45,10 +45,17 @@ int main(int argc, char **argv)
         if (r == 0 && another) notices[c.function]++;
         if (r >= NUMBERS) fail("a number that the rules does not have", r);
         seen[c.function][r]++;
+        if (r == 0 && c.dialect == 0x0311 && c.cipher <= CIPHERS) done[c.function][c.cipher]++;
+        if (r == 19 && c.key.len > 0) long_material++;
     }
     for (size_t i = 0; i < COUNT(answers) && cases >= ENOUGH; i++)
         expect(seen[answers[i].function][answers[i].number] >= 10, "an answer that hardly came up", answers[i].number);
     for (enum function f = SEAL; f <= OPEN && cases >= ENOUGH; f++)
         expect(notices[f] >= cases / 400, "break notices hardly came up", notices[f]);
+    for (uint16_t cipher = 1; cipher <= CIPHERS && cases >= ENOUGH; cipher++) {
+        expect(done[SEAL][cipher] >= cases / 200 && done[OPEN][cipher] >= cases / 200, "a cipher that hardly came up", cipher);
+        expect(done[DERIVE][cipher] >= cases / 400, "a cipher whose keys hardly came up", cipher);
+    }
+    if (cases >= ENOUGH) expect(long_material >= cases / 20000, "material that is too long hardly came up", long_material);
     return finish();
 }

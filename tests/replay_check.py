@@ -13,7 +13,7 @@ import tempfile
 import trace_model as model
 
 DIALECTS = (0x0311, 0x0311, 0x0311, 0x0300, 0x0302, 0x0210, 0)
-CIPHERS = (1, 2, 1, 2, 0, 3, 255)
+CIPHERS = (1, 2, 3, 4, 1, 2, 3, 4, 0, 5, 255)
 LENGTHS = (1, 24, 52, 53, 63, 64, 65, 100, 116, 180)
 
 

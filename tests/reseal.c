@@ -18,7 +18,7 @@ enum { ROOM = SMB3SEAL_HEADER_BYTES + SMB3SEAL_LONGEST_MESSAGE };
 
 static uint16_t dialect, cipher;
 static uint64_t id, counters[2];
-static uint8_t chain[64], keys[64], bytes[ROOM];
+static uint8_t chain[64], keys[96], bytes[ROOM];
 static char line[2 * ROOM + 100];
 
 /* The value of a lower-case digit, or 16. */
@@ -50,24 +50,26 @@ static void derive(const char *text)
     unsigned d, c;
     unsigned long long session;
     int at = 0;
-    uint8_t material[32];
+    uint8_t material[64];
     if (sscanf(text, "%x %x %llx %n", &d, &c, &session, &at) != 3) exit(2);
     dialect = (uint16_t)d;
     cipher = (uint16_t)c;
     id = session;
-    if (smb3seal_derive(dialect, material, read_bytes(text + at, material, sizeof material), chain, 64, keys, 64) != 0) exit(2);
-    print_bytes(keys, 64);
+    size_t n = read_bytes(text + at, material, sizeof material), keys_len = smb3seal_keys_bytes(dialect, cipher);
+    if (smb3seal_derive(dialect, cipher, material, n, chain, 64, keys, keys_len) != 0) exit(2);
+    print_bytes(keys, keys_len);
 }
 
 static void reseal(int direction, const char *text)
 {
-    const uint8_t *key = keys + (direction == 0 ? SMB3SEAL_CLIENT_TO_SERVER_KEY : SMB3SEAL_SERVER_TO_CLIENT_KEY);
+    size_t key_len = smb3seal_cipher_key_bytes(dialect, cipher);
+    const uint8_t *key = keys + SMB3SEAL_CLIENT_TO_SERVER_KEY + (direction == 0 ? 0 : key_len);
     uint32_t sender = direction == 0 ? SMB3SEAL_CLIENT : SMB3SEAL_SERVER, receiver = direction == 0 ? SMB3SEAL_SERVER : SMB3SEAL_CLIENT;
     size_t n = read_bytes(text, bytes, ROOM);
     uint64_t opened = 0, sealed = 0;
-    uint32_t r = smb3seal_open(receiver, dialect, 1, cipher, key, 16, id, bytes, n, &opened);
+    uint32_t r = smb3seal_open(receiver, dialect, 1, cipher, key, key_len, id, bytes, n, &opened);
     memset(bytes, 0, r == 0 ? SMB3SEAL_HEADER_BYTES : 0);
-    if (r == 0) r = smb3seal_seal(sender, dialect, 1, cipher, key, 16, id, &counters[direction], bytes, n, &sealed);
+    if (r == 0) r = smb3seal_seal(sender, dialect, 1, cipher, key, key_len, id, &counters[direction], bytes, n, &sealed);
     if (r != 0 || opened != sealed) {
         printf("refused %u\n", r);
         return;

@@ -148,6 +148,7 @@ struct table_call plain_table_call(enum table_function function, uint16_t cipher
         table[i].counter = 3;
         table[i].used = 1;
         table[i].guest = table[i].anonymous = 0;
+        table[i].wide = plain.key.len == 32;
     }
     table[RECORDS - 1].used = 0;
     return (struct table_call){
@@ -161,6 +162,12 @@ struct table_call plain_table_call(enum table_function function, uint16_t cipher
         .message = plain.message,
         .headers = plain.headers,
     };
+}
+
+void set_table_dialect(struct table_call *c, uint16_t dialect)
+{
+    c->connection.dialect = dialect;
+    c->table[PLACE].wide = key_bytes(dialect, c->connection.cipher) == 32;
 }
 
 uint8_t *opening_key(struct smb3seal_connection connection, struct smb3seal_session *record)
@@ -177,7 +184,7 @@ struct call under_key(const struct table_call *c)
         .cipher = c->connection.cipher,
         .encryption = 1,
         .id = c->id,
-        .key = {opening_key(c->connection, &c->table[PLACE]), 16},
+        .key = {opening_key(c->connection, &c->table[PLACE]), key_bytes(c->connection.dialect, c->connection.cipher)},
         .message = c->message,
     };
 }

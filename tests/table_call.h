@@ -31,7 +31,8 @@ uint64_t compare_table(struct table_call *call, const struct lender *lender);
 void expect_table_answer(struct table_call *call, uint64_t answer, const char *what);
 
 /*
- * A call with nothing wrong: 3.1.1, a client, and a table of RECORDS records of random bytes in which the one at PLACE is session 5's.
+ * A call with nothing wrong: 3.1.1, a client, and a table of RECORDS records of random bytes in which the one at PLACE is session 5's,
+ * with cipher keys of the cipher's size. Adding lends as many bytes of key material.
  * The others are used, under other ids, but for the last, which is free. Adding is for session 6, the others for session 5. The
  * message has room for the transform header and n inner bytes, which begin with one header. One is made at a time.
  */
@@ -40,6 +41,9 @@ struct table_call plain_table_call(enum table_function function, uint16_t cipher
 
 /* The key that the peer of this connection seals with, in this record: what this end opens with. */
 uint8_t *opening_key(struct smb3seal_connection connection, struct smb3seal_session *record);
+
+/* The call and session 5 on another dialect: the record's key size follows, and nothing else of the record. */
+void set_table_dialect(struct table_call *c, uint16_t dialect);
 
 /* The call's message as one under that key of session 5: what put_transform and forge of messages.h take. */
 struct call under_key(const struct table_call *c);

@@ -27,19 +27,20 @@ CONNECTION_AT(encryption, 5);
 CONNECTION_AT(constrained, 6);
 CONNECTION_AT(spare, 7);
 
-_Static_assert(sizeof(struct smb3seal_session) == 88, "smb3seal_session has 88 bytes");
+_Static_assert(sizeof(struct smb3seal_session) == 120, "smb3seal_session has 120 bytes");
 _Static_assert(_Alignof(struct smb3seal_session) == 8, "smb3seal_session is aligned to 8 bytes");
 SESSION_AT(id, 0);
 SESSION_AT(counter, 8);
 SESSION_AT(signing, 16);
 SESSION_AT(application, 32);
 SESSION_AT(client_to_server, 48);
-SESSION_AT(server_to_client, 64);
-SESSION_AT(used, 80);
-SESSION_AT(guest, 81);
-SESSION_AT(anonymous, 82);
-SESSION_AT(spare, 83);
-_Static_assert(sizeof((struct smb3seal_session *)0)->spare == 5, "no byte of smb3seal_session is padding");
+SESSION_AT(server_to_client, 80);
+SESSION_AT(used, 112);
+SESSION_AT(guest, 113);
+SESSION_AT(anonymous, 114);
+SESSION_AT(wide, 115);
+SESSION_AT(spare, 116);
+_Static_assert(sizeof((struct smb3seal_session *)0)->spare == 4, "no byte of smb3seal_session is padding");
 
 /* ---- what a call changes */
 
@@ -64,28 +65,42 @@ static int all_zero(const void *at, size_t n)
     return n == 0;
 }
 
-/* The bytes of the record, one place after the other: id 6, counter 0, the four keys, the three marks, five zeros. */
-static void adding(uint16_t dialect, uint32_t guest, uint32_t anonymous)
+/* The two cipher keys of a record, each in 32 bytes: n of the key, and zeros. */
+static void expect_cipher_keys(const uint8_t *places, const uint8_t *keys, size_t n)
 {
-    uint8_t keys[64];
-    struct table_call c = plain_table_call(TABLE_ADD, 1, HEADER);
+    for (size_t i = 0; i < 2; i++) {
+        expect(memcmp(places + 32 * i, keys + n * i, n) == 0, "a cipher key", i);
+        expect(all_zero(places + 32 * i + n, 32 - n), "and zeros behind it", i);
+    }
+}
+
+/* The bytes of the record, one place after the other: id 6, counter 0, the four keys, the three marks, the key size, four zeros. */
+static void adding(uint16_t dialect, uint16_t cipher, uint32_t guest, uint32_t anonymous)
+{
+    uint8_t keys[96];
+    int wide = dialect == 0x0311 && (cipher == 3 || cipher == 4);
+    size_t n = wide ? 32 : 16;
+    struct table_call c = plain_table_call(TABLE_ADD, cipher, HEADER);
     const uint8_t *record = (const uint8_t *)&c.table[RECORDS - 1];
     c.connection.dialect = dialect;
+    c.material.len = 40;
     c.guest = guest;
     c.anonymous = anonymous;
     keep(&c);
-    expect(smb3seal_derive(dialect, c.material.at, 16, c.chain.at, 64, keys, sizeof keys) == 0, "the keys", dialect);
+    uint32_t r = smb3seal_derive(dialect, cipher, c.material.at, 40, c.chain.at, 64, keys, 32 + 2 * n);
+    expect(r == 0, "the keys", dialect);
     expect_table_answer(&c, 0, "adding");
     expect_others_kept(&c, RECORDS - 1, "adding changes one record");
     expect(memcmp(record, "\6\0\0\0\0\0\0\0", 8) == 0, "the id", record[0]);
     expect(all_zero(record + 8, 8), "the counter", record[8]);
     expect(memcmp(record + 16, keys, 32) == 0, "the signing and application keys", guest);
-    if (guest == 0 && anonymous == 0) expect(memcmp(record + 48, keys + 32, 32) == 0, "the cipher keys", guest);
-    else expect(all_zero(record + 48, 32), "zero cipher keys", guest);
-    expect(record[80] == 1, "used", record[80]);
-    expect(record[81] == (guest != 0), "guest", record[81]);
-    expect(record[82] == (anonymous != 0), "anonymous", record[82]);
-    expect(all_zero(record + 83, 5), "the spare bytes", record[83]);
+    if (guest == 0 && anonymous == 0) expect_cipher_keys(record + 48, keys + 32, n);
+    else expect(all_zero(record + 48, 64), "zero cipher keys", guest);
+    expect(record[112] == 1, "used", record[112]);
+    expect(record[113] == (guest != 0), "guest", record[113]);
+    expect(record[114] == (anonymous != 0), "anonymous", record[114]);
+    expect(record[115] == wide, "wide", record[115]);
+    expect(all_zero(record + 116, 4), "the spare bytes", record[116]);
 }
 
 static void addings(void)
@@ -94,14 +109,15 @@ static void addings(void)
     static const uint32_t marks[] = {0, 1, 2, 0x80, 0xFF, 0x100, 0x10000, 0x80000000, UINT32_MAX};
     for (size_t d = 0; d < COUNT(dialects); d++)
         for (size_t g = 0; g < COUNT(marks); g++)
-            for (size_t a = 0; a < COUNT(marks); a++) adding(dialects[d], marks[g], marks[a]);
+            for (size_t a = 0; a < COUNT(marks); a++)
+                for (uint16_t cipher = 0; cipher <= 5; cipher++) adding(dialects[d], cipher, marks[g], marks[a]);
 }
 
 /* The first free record is filled, wherever it is and whatever free ones follow. */
-static void first_free_is_filled(void)
+static void first_free_is_filled(uint16_t cipher)
 {
     for (size_t place = 0; place < RECORDS; place++) {
-        struct table_call c = plain_table_call(TABLE_ADD, 1, HEADER);
+        struct table_call c = plain_table_call(TABLE_ADD, cipher, HEADER);
         begin_case(place);
         for (size_t i = 0; i < RECORDS; i++) c.table[i].used = i < place;
         keep(&c);
@@ -137,7 +153,8 @@ static void sealing(uint16_t cipher, uint8_t role, uint64_t counter)
     expect(c.headers == 1 && c.table[PLACE].counter == counter + 1, "headers sealed, and the counter", c.table[PLACE].counter);
     c.table[PLACE].counter = counter;
     expect_others_kept(&c, RECORDS, "sealing changes one counter alone");
-    uint32_t r = smb3seal_seal(role, c.connection.dialect, 1, cipher, key, 16, SESSION, &same, message, sizeof message, &headers);
+    uint32_t r = smb3seal_seal(role, c.connection.dialect, 1, cipher, key, cipher > 2 ? 32 : 16, SESSION, &same, message, sizeof message,
+                               &headers);
     expect(r == 0 && memcmp(message, c.message.at, sizeof message) == 0, "the bytes of sealing under the record's key", role);
 }
 
@@ -314,7 +331,7 @@ static void published_messages(const struct session *published)
 
 /* ---- two ends */
 
-enum { ENDS = 2, SENT = 6 };
+enum { ENDS = 2, SENT = 6, CIPHERS = 4 };
 
 /* Both ends have the session, at another place each; messages from either end are lost, repeated and reordered on the way. */
 static void two_ends(uint16_t dialect, uint16_t cipher)
@@ -354,6 +371,95 @@ static void two_ends(uint16_t dialect, uint16_t cipher)
     }
 }
 
+/* ---- both key sizes */
+
+/* A message from one end's table to the other's. */
+static void expect_exchange(struct table_call *c, struct smb3seal_session *from, struct smb3seal_session *to, uint64_t id)
+{
+    uint8_t inner[HEADER];
+    c->id = id;
+    c->table = from;
+    c->function = TABLE_SEAL;
+    put_header(c->message.at + TRANSFORM, 0, 0, id);
+    memcpy(inner, c->message.at + TRANSFORM, HEADER);
+    expect_table_answer(c, 0, "sealing for a session of this key size");
+    c->table = to;
+    c->function = TABLE_OPEN;
+    c->connection.role ^= 1;
+    expect_table_answer(c, 0, "opening for it");
+    expect(memcmp(inner, c->message.at + TRANSFORM, HEADER) == 0, "the inner message again", id);
+    c->connection.role ^= 1;
+}
+
+/* A session under a cipher of the other key size: 35 on sealing and on opening, and nothing changes. */
+static void expect_other_size(struct table_call *c, struct smb3seal_session *table, uint64_t id)
+{
+    c->id = id;
+    c->table = table;
+    c->function = TABLE_SEAL;
+    put_header(c->message.at + TRANSFORM, 0, 0, id);
+    expect_table_answer(c, 35, "sealing under a cipher of the other key size");
+    c->function = TABLE_OPEN;
+    struct call header = {.id = id, .message = c->message};
+    put_transform(&header, 1);
+    expect_table_answer(c, 35, "opening under a cipher of the other key size");
+}
+
+/* Both ends have session 1 for cipher 1, 2 for 2, 3 for 3 and 4 for 4 in one table, each at a place of its own. */
+static void both_key_sizes(void)
+{
+    static struct smb3seal_session tables[ENDS][RECORDS];
+    struct table_call c = plain_table_call(TABLE_ADD, 1, HEADER);
+    memset(tables, 0, sizeof tables);
+    c.material.len = 32;
+    for (size_t end = 0; end < ENDS; end++)
+        for (uint16_t cipher = 1; cipher <= CIPHERS; cipher++) {
+            c.function = TABLE_ADD;
+            c.table = tables[end];
+            c.id = c.connection.cipher = cipher;
+            expect_table_answer(&c, 0, "adding for each cipher");
+            expect(tables[end][cipher - 1].wide == (cipher > 2), "a wide record or a narrow one", cipher);
+        }
+    for (uint16_t id = 1; id <= CIPHERS; id++)
+        for (uint16_t cipher = 1; cipher <= CIPHERS; cipher++) {
+            c.connection.cipher = cipher;
+            if ((id > 2) != (cipher > 2)) expect_other_size(&c, tables[0], id);
+            else expect_exchange(&c, tables[0], tables[1], id);
+        }
+    expect(memcmp(tables[0][0].client_to_server, tables[0][1].client_to_server, 32) == 0, "one key for ciphers 1 and 2", 16);
+    expect(memcmp(tables[0][2].client_to_server, tables[0][3].client_to_server, 32) == 0, "one key for ciphers 3 and 4", 32);
+    expect(memcmp(tables[0][0].client_to_server, tables[0][2].client_to_server, 16) != 0, "another for each key size", 16);
+    for (uint64_t id = 1; id <= CIPHERS; id++) {
+        c.function = TABLE_REMOVE;
+        c.id = id;
+        expect_table_answer(&c, 0, "removing it");
+        expect(all_zero(&c.table[id - 1], sizeof *c.table), "to zeros", id);
+    }
+    expect(all_zero(c.table, sizeof tables[0]), "an empty table again", 0);
+}
+
+/* A guest that is added for a cipher of 256 bits: no cipher key, and 8 with ciphers of both sizes, before 35. */
+static void wide_guest(uint32_t guest, uint32_t anonymous)
+{
+    for (uint16_t added = 1; added <= CIPHERS; added++) {
+        struct table_call c = plain_table_call(TABLE_ADD, added, HEADER);
+        c.guest = guest;
+        c.anonymous = anonymous;
+        expect_table_answer(&c, 0, "adding a guest");
+        expect(c.table[RECORDS - 1].wide == (added > 2), "the key size of a guest", added);
+        expect(all_zero((const uint8_t *)&c.table[RECORDS - 1] + 48, 64), "no cipher key", added);
+        for (uint16_t cipher = 1; cipher <= CIPHERS; cipher++) {
+            c.connection.cipher = cipher;
+            c.function = TABLE_SEAL;
+            expect_table_answer(&c, 8, "sealing for a guest");
+            c.function = TABLE_OPEN;
+            struct call header = {.id = c.id, .message = c.message};
+            put_transform(&header, 1);
+            expect_table_answer(&c, 8, "opening for a guest");
+        }
+    }
+}
+
 /* ---- lengths that only 64 bits can hold */
 
 /* Lengths of 2^32 and a little: none is taken for the little. The bytes are there, but no page of them is used. */
@@ -376,8 +482,12 @@ static void wide_buffers(void)
     expect_others_kept(&c, RECORDS, "nothing changed");
     r = smb3seal_table_add(c.table, RECORDS, c.connection, OTHER_SESSION, 0, 0, at, four_gigabytes, c.chain.at, 64);
     expect(r == 0, "material of 4 GiB", four_gigabytes);
-    expect(smb3seal_derive(0x0311, at, 16, c.chain.at, 64, keys, 64) == 0, "its first 16 bytes", 16);
-    expect(memcmp(c.table[RECORDS - 1].signing, keys, 64) == 0, "make the four keys", 16);
+    expect(smb3seal_derive(0x0311, 2, at, 16, c.chain.at, 64, keys, 64) == 0, "its first 16 bytes", 16);
+    expect(memcmp(c.table[RECORDS - 1].signing, keys, 32) == 0, "make two keys", 16);
+    expect_cipher_keys((const uint8_t *)&c.table[RECORDS - 1] + 48, keys + 32, 16);
+    c.connection.cipher = 4;
+    r = smb3seal_table_add(c.table, RECORDS, c.connection, OTHER_SESSION + 1, 0, 0, at, four_gigabytes + 16, c.chain.at, 64);
+    expect(r == 19, "material over 4 GiB for a cipher of 256 bits", four_gigabytes);
     munmap(at, four_gigabytes + 4096);
 }
 
@@ -386,7 +496,7 @@ static void wide_table(void)
 {
     const size_t records = ((size_t)1 << 32) + 1, n = records * sizeof(struct smb3seal_session), third = 2;
     struct smb3seal_session *table = mmap(NULL, n, PROT_READ, MAP_PRIVATE | MAP_ANONYMOUS | MAP_NORESERVE, -1, 0);
-    expect(table != MAP_FAILED, "352 GiB of address space", n);
+    expect(table != MAP_FAILED, "480 GiB of address space", n);
     expect(mprotect(table, 4096, PROT_READ | PROT_WRITE) == 0, "its first page", n);
     struct table_call c = plain_table_call(TABLE_SEAL, 2, HEADER);
     table[third] = c.table[PLACE];
@@ -406,8 +516,8 @@ int main(int argc, char **argv)
     static const uint16_t dialects[] = {0x0300, 0x0302, 0x0311};
     begin(argc, argv);
     addings();
-    first_free_is_filled();
-    for (uint16_t cipher = 1; cipher <= 2; cipher++) {
+    for (uint16_t cipher = 1; cipher <= CIPHERS; cipher++) {
+        first_free_is_filled(cipher);
         for (uint8_t role = SMB3SEAL_CLIENT; role <= SMB3SEAL_SERVER; role++) {
             sealing(cipher, role, 0);
             sealing(cipher, role, 0xFF);
@@ -424,6 +534,9 @@ int main(int argc, char **argv)
     }
     lookups();
     empty_table();
+    both_key_sizes();
+    wide_guest(1, 0);
+    wide_guest(0, 1);
     for (size_t i = 0; i < COUNT(derivations); begin_case(++i)) published_keys(&derivations[i]);
     for (size_t i = 0; i < COUNT(sessions); begin_case(++i)) published_messages(&sessions[i]);
     wide_buffers();

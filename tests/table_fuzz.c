@@ -45,10 +45,10 @@ static struct smb3seal_connection take_connection(int any)
     }
     uint64_t choice = take(1);
     c.dialect = dialects[choice & 3];
-    c.cipher = (uint16_t)(1 + (choice >> 2 & 1));
-    c.role = choice >> 3 & 1;
+    c.cipher = (uint16_t)(1 + (choice >> 2 & 3));
+    c.role = choice >> 4 & 1;
     c.encryption = 1;
-    c.constrained = (choice & 0xF0) == 0xF0;
+    c.constrained = (choice & 0xE0) == 0xE0;
     return c;
 }
 
@@ -57,9 +57,9 @@ static void take_adding(struct table_call *c)
     uint64_t lengths = take(1);
     c->guest = (uint32_t)take(2);
     c->anonymous = (uint32_t)take(2);
-    c->material.len = lengths & 31;
+    c->material.len = lengths & 63;
     c->chain.len = lengths & 128 ? lengths & 127 : 64;
-    take_bytes(c->material.at, 16);
+    take_bytes(c->material.at, 63);
     take_bytes(c->chain.at, 4);
 }
 
@@ -81,7 +81,7 @@ static void take_message(struct table_call *c)
     if (choice & 8) take_bytes(c->message.at + 36, 4);
     if (choice & 64) take_bytes(c->message.at + 42, 10);
     if (choice & 128) take_bytes(c->message.at, 4);
-    if (place < c->table_len) under.key = (struct lent){opening_key(c->connection, &c->table[place]), 16};
+    if (place < c->table_len) under.key = (struct lent){opening_key(c->connection, &c->table[place]), 32};
     if (c->function == TABLE_OPEN && place < c->table_len && choice & 16) forge(&under);
     if (choice & 32) c->message.len = take(2) % (c->message.len + 1);
 }

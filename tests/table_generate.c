@@ -40,6 +40,7 @@ static void generate_record(struct smb3seal_session *s)
     s->used = any_flag(35);
     s->guest = any_flag(88);
     s->anonymous = any_flag(88);
+    s->wide = any_flag(60);
     s->id = any_id();
     s->counter = any_counter();
     if (chance(30)) memset(s->spare, 0, sizeof s->spare);
@@ -81,17 +82,27 @@ static struct smb3seal_connection any_connection(void)
     return c;
 }
 
+/* A cipher of the record's key size, where the dialect has one: else nearly every call with a cipher of 256 bits would end at 35. */
+static void match_key_size(struct table_call *c, const struct smb3seal_session *record)
+{
+    int wide = key_bytes(c->connection.dialect, c->connection.cipher) == 32;
+    if (c->connection.cipher < 1 || c->connection.cipher > 4 || wide == (record->wide != 0)) return;
+    if (record->wide != 0) c->connection.dialect = 0x0311;
+    c->connection.cipher = (uint16_t)((record->wide != 0 ? 3 : 1) + below(2));
+}
+
 /* The message, by the parts of a call under one key: the key of the record, where the message is opened and the table has one. */
 static void generate_table_message(struct table_call *c)
 {
-    uint8_t key[16];
+    uint8_t key[32];
     size_t place = model_table_find(c->table, c->table_len, c->id);
-    struct call under = {.function = c->function == TABLE_SEAL ? SEAL : OPEN, .key = {key, 16}, .message = {c->message.at, 0}};
-    under.dialect = c->connection.dialect;
+    if (place < c->table_len && chance(85)) match_key_size(c, &c->table[place]);
+    struct call under = {.function = c->function == TABLE_SEAL ? SEAL : OPEN, .key = {key, 0}, .message = {c->message.at, 0}};
     under.cipher = c->connection.cipher;
+    set_dialect(&under, c->connection.dialect);
     under.id = chance(97) ? c->id : any_id_like(c);
     fill(key, sizeof key);
-    if (place < c->table_len && chance(97)) memcpy(key, opening_key(c->connection, &c->table[place]), 16);
+    if (place < c->table_len && chance(97)) memcpy(key, opening_key(c->connection, &c->table[place]), 32);
     generate_message(&under);
     c->connection.cipher = under.cipher;
     c->message.len = under.message.len;
@@ -103,9 +114,9 @@ static void generate_adding(struct table_call *c)
     if (chance(50)) c->id = number();
     c->guest = chance(80) ? 0 : chance(50) ? 1 : (uint32_t)1 << below(32);
     c->anonymous = chance(80) ? 0 : chance(50) ? 1 : (uint32_t)number();
-    c->material.len = chance(60) ? 16 : chance(95) ? below(33) : 0;
+    c->material.len = any_material_length();
     c->chain.len = any_length_like(64);
-    fill(c->material.at, 32);
+    fill(c->material.at, c->material.len);
     fill(c->chain.at, 128);
 }
 

@@ -11,6 +11,11 @@ size_t model_table_find(const struct smb3seal_session *table, size_t table_len, 
     return table_len;
 }
 
+static size_t key_bytes(struct smb3seal_connection c)
+{
+    return model_wide(c.dialect, c.cipher) ? 32 : 16;
+}
+
 /* ---- adding and removing */
 
 static size_t first_free(const struct smb3seal_session *table, size_t table_len)
@@ -25,9 +30,9 @@ uint32_t model_table_add(struct smb3seal_session *table, size_t table_len, struc
                          uint32_t guest, uint32_t anonymous, const uint8_t *material, size_t material_len, const uint8_t *chain,
                          size_t chain_len)
 {
-    uint8_t keys[64];
-    size_t place = first_free(table, table_len);
-    uint32_t r = model_derive(connection.dialect, material, material_len, chain, chain_len, keys, sizeof keys);
+    uint8_t keys[96];
+    size_t place = first_free(table, table_len), n = key_bytes(connection);
+    uint32_t r = model_derive(connection.dialect, connection.cipher, material, material_len, chain, chain_len, keys, 32 + 2 * n);
     if (r != 0) return r;
     if (session_id == 0) return 20;
     if (model_table_find(table, table_len, session_id) != table_len) return 21;
@@ -38,11 +43,12 @@ uint32_t model_table_add(struct smb3seal_session *table, size_t table_len, struc
     s->used = 1;
     s->guest = guest != 0;
     s->anonymous = anonymous != 0;
+    s->wide = n == 32;
     memcpy(s->signing, keys, 16);
     memcpy(s->application, keys + 16, 16);
     if (s->guest || s->anonymous) return 0;
-    memcpy(s->client_to_server, keys + 32, 16);
-    memcpy(s->server_to_client, keys + 48, 16);
+    memcpy(s->client_to_server, keys + 32, n);
+    memcpy(s->server_to_client, keys + 32 + n, n);
     return 0;
 }
 
@@ -65,15 +71,16 @@ static uint32_t agreed(struct smb3seal_connection c)
 /* 1, 2 and 3. */
 static uint32_t first_tests(struct smb3seal_connection c, size_t message_len)
 {
-    return model_first_tests(c.role, c.dialect, agreed(c), c.cipher, 16, message_len);
+    return model_first_tests(c.role, c.dialect, agreed(c), c.cipher, key_bytes(c), message_len);
 }
 
-/* 6, 7 and 8, on the record at this place. */
+/* 6, 7, 8 and 35, on the record at this place. */
 static uint32_t record_tests(const struct smb3seal_session *table, size_t table_len, size_t place, struct smb3seal_connection c)
 {
     if (place == table_len) return 6;
     if (c.constrained != 0) return 7;
-    return table[place].guest != 0 || table[place].anonymous != 0 ? 8 : 0;
+    if (table[place].guest != 0 || table[place].anonymous != 0) return 8;
+    return (table[place].wide != 0) != (key_bytes(c) == 32) ? 35 : 0;
 }
 
 uint32_t model_table_seal(struct smb3seal_session *table, size_t table_len, struct smb3seal_connection connection,
@@ -85,8 +92,8 @@ uint32_t model_table_seal(struct smb3seal_session *table, size_t table_len, stru
     if (r != 0) return r;
     struct smb3seal_session *s = &table[place];
     const uint8_t *key = connection.role == SMB3SEAL_CLIENT ? s->client_to_server : s->server_to_client;
-    return model_seal(connection.role, connection.dialect, 1, connection.cipher, key, 16, session_id, &s->counter, message, message_len,
-                      headers);
+    return model_seal(connection.role, connection.dialect, 1, connection.cipher, key, key_bytes(connection), session_id, &s->counter,
+                      message, message_len, headers);
 }
 
 uint32_t model_table_open(const struct smb3seal_session *table, size_t table_len, struct smb3seal_connection connection,
@@ -101,5 +108,6 @@ uint32_t model_table_open(const struct smb3seal_session *table, size_t table_len
     if (r != 0) return r;
     const struct smb3seal_session *s = &table[place];
     const uint8_t *key = connection.role == SMB3SEAL_CLIENT ? s->server_to_client : s->client_to_server;
-    return model_open(connection.role, connection.dialect, 1, connection.cipher, key, 16, id, message, message_len, headers);
+    return model_open(connection.role, connection.dialect, 1, connection.cipher, key, key_bytes(connection), id, message, message_len,
+                      headers);
 }

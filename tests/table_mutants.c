@@ -100,6 +100,11 @@ static void mistake_arguments(struct adding *a)
     static const uint8_t zeros[64];
     if (fault("table_add: a mark's low byte") && a->guest != 0) a->guest = (uint8_t)a->guest;
     if (fault("table_add: a mark is 1") && a->anonymous != 1) a->anonymous = 0;
+    int wide = smb3seal_cipher_key_bytes(a->c.dialect, a->c.cipher) == 32;
+    if (fault("table_add: material over 65,536 bytes is taken") && wide && a->material_len > 65536) a->material_len = 65536;
+    if (fault("table_add: wide keys come from the session key") && wide && a->material_len > 16) a->material_len = 16;
+    if (fault("table_add: the cipher is ignored")) a->c.cipher = 0;
+    if (fault("table_add: cipher 5 is wide") && a->c.cipher == 5) a->c.cipher = 4;
     if (fault("table_add: material is taken as 32 bits long")) a->material_len = (uint32_t)a->material_len;
     if (fault("table_add: the chain is taken as 32 bits long")) a->chain_len = (uint32_t)a->chain_len;
     if (fault("table_add: the chain's length counts on 3.1.1 alone") && a->c.dialect != 0x0311) {
@@ -127,22 +132,39 @@ static uint32_t mistake_order(const struct adding *a, uint32_t r)
     return r;
 }
 
+/* The key size and the cipher keys of the record that a wrong library filled, which was `before`. */
+static void mistake_key_size(const struct adding *a, session *s, const session *before)
+{
+    if (fault("table_add: every record is narrow")) s->wide = 0;
+    if (fault("table_add: a guest is narrow") && s->guest) s->wide = 0;
+    if (fault("table_add: ciphers 3 and 4 are wide on any dialect")) s->wide = a->c.cipher == 3 || a->c.cipher == 4;
+    if (fault("table_add: cipher 4 alone is wide") && a->c.cipher == 3) s->wide = 0;
+    if (fault("table_add: the key size is 255") && s->wide) s->wide = 255;
+    if (fault("table_add: the key size stays")) s->wide = before->wide;
+    if (fault("table_add: the bytes behind a narrow key stay") && !s->wide)
+        memcpy(s->server_to_client + 16, before->server_to_client + 16, 16);
+    if (fault("table_add: the second half of a wide key is left out") && s->wide) memset(s->client_to_server + 16, 0, 16);
+}
+
 /* What a wrong library leaves in the record that it filled, which was `before`. */
 static void mistake_record(const struct adding *a, session *s, const session *before)
 {
-    uint8_t keys[64];
-    smb3seal_derive(a->c.dialect, a->material, a->material_len, a->chain, a->chain_len, keys, sizeof keys);
-    if (fault("table_add: a guest has its cipher keys") && s->guest) memcpy(s->client_to_server, keys + 32, 32);
-    if (fault("table_add: an anonymous one has its cipher keys") && s->anonymous) memcpy(s->client_to_server, keys + 32, 32);
+    uint8_t keys[96];
+    size_t n = smb3seal_cipher_key_bytes(a->c.dialect, a->c.cipher);
+    smb3seal_derive(a->c.dialect, a->c.cipher, a->material, a->material_len, a->chain, a->chain_len, keys, 32 + 2 * n);
+    if (fault("table_add: a guest has its cipher keys") && s->guest) memcpy(s->client_to_server, keys + 32, n);
+    if (fault("table_add: an anonymous one has its cipher keys") && s->anonymous) memcpy(s->client_to_server, keys + 32, n);
+    if (fault("table_add: a guest has a wide cipher key") && s->guest && n == 32) memcpy(s->server_to_client, keys + 64, n);
+    mistake_key_size(a, s, before);
     if (fault("table_add: a guest has no signing key") && s->guest) memset(s->signing, 0, 16);
     if (fault("table_add: an anonymous one has no application key") && s->anonymous) memset(s->application, 0, 16);
-    if (fault("table_add: the keys in the other order")) memcpy(s->server_to_client, keys + 32, 16);
+    if (fault("table_add: the keys in the other order")) memcpy(s->server_to_client, keys + 32, n);
     if (fault("table_add: the signing key at the application key's place")) memcpy(s->application, keys, 16);
     if (fault("table_add: the mark guest as it is handed in")) s->guest = (uint8_t)a->guest;
     if (fault("table_add: the mark anonymous as it is handed in")) s->anonymous = (uint8_t)a->anonymous;
     if (fault("table_add: the marks are left out")) s->guest = s->anonymous = 0;
     if (fault("table_add: the spare bytes stay")) memcpy(s->spare, before->spare, sizeof s->spare);
-    if (fault("table_add: the last spare byte stays")) s->spare[4] = before->spare[4];
+    if (fault("table_add: the last spare byte stays")) s->spare[3] = before->spare[3];
     if (fault("table_add: the counter stays")) s->counter = before->counter;
     if (fault("table_add: the counter begins at 1")) s->counter = 1;
     if (fault("table_add: used is 255")) s->used = 255;
@@ -168,7 +190,7 @@ static uint32_t mistake_answer(const struct adding *a, uint32_t r)
     if (fault("table_add: an id is added twice") && r == 21) return add_under(a, ~a->id);
     if (fault("table_add: the role is tested") && r == 0 && a->c.role > 1) return 1;
     if (fault("table_add: encryption is tested") && r == 0 && a->c.encryption == 0) return 1;
-    if (fault("table_add: the cipher is tested") && r == 0 && (a->c.cipher == 0 || a->c.cipher > 2)) return 1;
+    if (fault("table_add: the cipher is tested") && r == 0 && (a->c.cipher == 0 || a->c.cipher > 4)) return 1;
     if (fault("table_add: the constraint is tested") && r == 0 && a->c.constrained != 0) return 7;
     return mistake_order(a, r);
 }
@@ -212,8 +234,10 @@ static void mistake_removal(session *s, const session *before)
     if (fault("table_remove: the counter stays")) s->counter = before->counter;
     if (fault("table_remove: the signing key stays")) memcpy(s->signing, before->signing, 16);
     if (fault("table_remove: the application key stays")) memcpy(s->application, before->application, 16);
-    if (fault("table_remove: the client to server key stays")) memcpy(s->client_to_server, before->client_to_server, 16);
-    if (fault("table_remove: the last byte of a key stays")) s->server_to_client[15] = before->server_to_client[15];
+    if (fault("table_remove: the client to server key stays")) memcpy(s->client_to_server, before->client_to_server, 32);
+    if (fault("table_remove: the second half of a key stays")) memcpy(s->client_to_server + 16, before->client_to_server + 16, 16);
+    if (fault("table_remove: the last byte of a key stays")) s->server_to_client[31] = before->server_to_client[31];
+    if (fault("table_remove: the key size stays")) s->wide = before->wide;
     if (fault("table_remove: the mark guest stays")) s->guest = before->guest;
     if (fault("table_remove: the mark anonymous stays")) s->anonymous = before->anonymous;
     if (fault("table_remove: the spare bytes stay")) memcpy(s->spare, before->spare, sizeof s->spare);
@@ -271,8 +295,13 @@ static connection mistake_connection(connection c)
 }
 
 /* The record as a wrong library reads it. */
-static void mistake_session(session *s)
+static void mistake_session(session *s, connection c)
 {
+    int wide = smb3seal_cipher_key_bytes(c.dialect, c.cipher) == 32;
+    if (fault("table_seal: 35 is left out")) s->wide = (uint8_t)wide;
+    if (fault("table_seal: a wide record under a cipher of 128 bits") && !wide) s->wide = 0;
+    if (fault("table_seal: a narrow record under a cipher of 256 bits") && wide) s->wide = 1;
+    if (fault("table_seal: only 1 means wide")) s->wide = s->wide == 1;
     if (fault("table_seal: guest is not tested")) s->guest = 0;
     if (fault("table_seal: anonymous is not tested")) s->anonymous = 0;
     if (fault("table_seal: only 1 means guest")) s->guest = s->guest == 1;
@@ -311,12 +340,33 @@ static uint32_t mistake_notice(uint32_t r, connection c, int marks)
     return r;
 }
 
+/* What the walk says of the message, where it refuses; else 35. */
+static uint32_t walked_before(connection c, uint64_t id, const uint8_t *message, size_t message_len)
+{
+    static const uint8_t any_key[32];
+    uint8_t copy[1024] = {0};
+    uint64_t counter = 0, visited;
+    if (message_len > sizeof copy) return 35;
+    memcpy(copy, message, message_len);
+    uint32_t r = smb3seal_connection_seal(c, any_key, smb3seal_cipher_key_bytes(c.dialect, c.cipher), id, &counter, copy, message_len,
+                                          &visited);
+    return r > 10 && r < 17 ? r : 35;
+}
+
+static int other_size(connection c, const session *s)
+{
+    return (smb3seal_cipher_key_bytes(c.dialect, c.cipher) == 32) != (s->wide != 0);
+}
+
 static uint32_t mistake_seal_order(uint32_t r, connection c, const session *s)
 {
     if (fault("table_seal: 6 before 1") && r == 1 && s == NULL) return 6;
     if (fault("table_seal: 6 before 2") && r == 2 && s == NULL) return 6;
     if (fault("table_seal: 6 before 3") && r == 3 && s == NULL) return 6;
     if (fault("table_seal: 7 before 6") && r == 6 && c.constrained != 0) return 7;
+    if (fault("table_seal: 35 before 8") && r == 8 && other_size(c, s)) return 35;
+    if (fault("table_seal: 35 before 7") && r == 7 && other_size(c, s)) return 35;
+    if (fault("table_seal: 17 before 35") && r == 35 && s->counter == UINT64_MAX) return 17;
     if (fault("table_seal: 8 before 7") && r == 7 && (s->guest != 0 || s->anonymous != 0)) return 8;
     if (fault("table_seal: 17 before the walk") && r > 10 && r < 17 && s->counter == UINT64_MAX) return 17;
     return r;
@@ -336,11 +386,12 @@ uint32_t __wrap_smb3seal_table_seal(session *table, size_t n, connection c, uint
     if (place < n) before = read = table[place];
     read.used = place < n;
     read.id = id;
-    mistake_session(&read);
+    mistake_session(&read, c);
     uint32_t r = __real_smb3seal_table_seal(&read, 1, mistake_connection(c), id, message, message_len, headers);
     if (place < n) mistake_step(&table[place], &before, r);
     for (size_t i = place + 1; i < n && r == 0 && fault("table_seal: every record of the id steps"); i++)
         table[i].counter += hit(&table[i], id, FIRST) ? 1 : 0;
+    if (fault("table_seal: the walk before 35") && r == 35) r = walked_before(c, id, message, message_len);
     if (fault("table_seal: a refusal clears the count") && r != 0) *headers = 0;
     if (fault("table_seal: the count is always 1") && r == 0) *headers = 1;
     if (fault("table_seal: a wrong bit of the tag") && r == 0) message[19] ^= 0x80;
@@ -374,6 +425,11 @@ static void mistake_opening(connection *c, session *s)
     if (fault("table_open: anonymous is not tested")) s->anonymous = 0;
     if (fault("table_open: only 1 means guest")) s->guest = s->guest == 1;
     if (fault("table_open: only 1 means anonymous")) s->anonymous = s->anonymous == 1;
+    int wide = smb3seal_cipher_key_bytes(c->dialect, c->cipher) == 32;
+    if (fault("table_open: 35 is left out")) s->wide = (uint8_t)wide;
+    if (fault("table_open: a wide record under a cipher of 128 bits") && !wide) s->wide = 0;
+    if (fault("table_open: a narrow record under a cipher of 256 bits") && wide) s->wide = 1;
+    if (fault("table_open: only 1 means wide")) s->wide = s->wide == 1;
 }
 
 static uint32_t mistake_open_order(uint32_t r, connection c, const session *s)
@@ -387,6 +443,9 @@ static uint32_t mistake_open_order(uint32_t r, connection c, const session *s)
     if (fault("table_open: 7 before 6") && r == 6 && c.constrained != 0) return 7;
     if (fault("table_open: 8 before 7") && r == 7 && (s->guest != 0 || s->anonymous != 0)) return 8;
     if (fault("table_open: 10 for 9") && r == 9) return 10;
+    if (fault("table_open: 35 before 8") && r == 8 && other_size(c, s)) return 35;
+    if (fault("table_open: 35 before 6") && r == 6) return 35;
+    if (fault("table_open: 9 for 35") && r == 35) return 9;
     return r;
 }
 
@@ -394,7 +453,7 @@ static uint32_t mistake_open_order(uint32_t r, connection c, const session *s)
 static void mistake_table(const session *s, uint32_t r)
 {
     if (fault("table_open: the counter goes up") && r == 0) ((session *)s)->counter++;
-    if (fault("table_open: a spare byte is written") && r == 0) ((session *)s)->spare[4] = 0;
+    if (fault("table_open: a spare byte is written") && r == 0) ((session *)s)->spare[3] = 0;
     if (fault("table_open: a bad tag frees the record") && r == 9) ((session *)s)->used = 0;
     if (fault("table_open: the table is written")) touch(s);
 }

@@ -7,14 +7,15 @@
 
 #include "check.h"
 #include "messages.h"
+#include "model.h"
 #include "table_call.h"
 
-enum { INNER = 200 };
+enum { INNER = 200, CIPHERS = 4 };
 
 /* ---- sealing and opening: faults in the order in which they are tested */
 
-static const uint32_t seal_faults[] = {1, 2, 6, 7, 8, 11, 12, 13, 14, 15, 16, 17};
-static const uint32_t open_faults[] = {1, 2, 4, 5, 29, 6, 7, 8, 9, 10, 11, 12, 13, 14, 15, 16};
+static const uint32_t seal_faults[] = {1, 2, 6, 7, 8, 35, 11, 12, 13, 14, 15, 16, 17};
+static const uint32_t open_faults[] = {1, 2, 4, 5, 29, 6, 7, 8, 35, 9, 10, 11, 12, 13, 14, 15, 16};
 
 /* What is wrong inside the message, before it is sealed. */
 static void put_inner_fault(struct table_call *c, uint32_t number)
@@ -56,6 +57,7 @@ static void put_table_fault(struct table_call *c, uint32_t number, uint32_t caus
         if (cause % 2 == 0) s->guest = 1;
         else s->anonymous = 1;
         break;
+    case 35: s->wide = s->wide != 0 ? 0 : (uint8_t)(1 << cause % 8); break;
     case 17: s->counter = UINT64_MAX; break;
     }
 }
@@ -103,13 +105,13 @@ static void every_set(enum table_function function, uint16_t cipher, uint8_t rol
     }
 }
 
-/* 29 is for GCM alone. */
+/* 29 is for GCM alone. 35 goes both ways: a wide record under a cipher of 128 bits, and a narrow one under one of 256. */
 static void every_open_set(uint16_t cipher)
 {
     uint32_t numbers[COUNT(open_faults)];
     size_t count = 0;
     for (size_t i = 0; i < COUNT(open_faults); i++)
-        if (open_faults[i] != 29 || cipher == SMB3SEAL_CIPHER_AES_128_GCM) numbers[count++] = open_faults[i];
+        if (open_faults[i] != 29 || model_gcm(SMB3SEAL_DIALECT_311, cipher)) numbers[count++] = open_faults[i];
     every_set(TABLE_OPEN, cipher, SMB3SEAL_SERVER, numbers, count);
 }
 
@@ -160,7 +162,7 @@ static void put_add_fault(struct table_call *c, uint32_t number, uint32_t cause)
     switch (number) {
     case 40: c->chain.len = chains[cause % COUNT(chains)]; break;
     case 18: c->connection.dialect = 0x0210; break;
-    case 19: c->material.len = 0; break;
+    case 19: c->material.len = key_bytes(c->connection.dialect, c->connection.cipher) == 32 && cause & 4 ? KEY_ROOM : 0; break;
     case 20: c->id = 0; break;
     case 21: c->table[PLACE].id = c->id; break;
     case 22:
@@ -170,13 +172,14 @@ static void put_add_fault(struct table_call *c, uint32_t number, uint32_t cause)
     }
 }
 
-/* Nothing of the connection but the dialect counts; so each cause has another connection, and other marks. */
+/* Nothing of the connection but dialect and cipher counts; so each cause has another connection, and other marks. */
 static void one_adding(uint16_t dialect, uint32_t set, uint32_t cause)
 {
     struct table_call c = plain_table_call(TABLE_ADD, 2, HEADER);
     uint32_t first = 0;
     if (cause > 0) fill((uint8_t *)&c.connection, sizeof c.connection);
     c.connection.dialect = dialect;
+    c.connection.cipher = (uint16_t)(cause % 6);
     c.guest = cause & 1 ? (uint32_t)1 << cause : 0;
     c.anonymous = cause & 2 ? (uint32_t)1 << (31 - cause) : 0;
     for (size_t i = 0; i < COUNT(add_faults); i++) {
@@ -247,7 +250,21 @@ static void every_flag(enum table_function function, uint8_t role)
     every_byte(function, role, none, offsetof(struct smb3seal_session, used), 6, 0, 0);
     every_byte(function, role, none, offsetof(struct smb3seal_session, guest), 0, 8, 8);
     every_byte(function, role, none, offsetof(struct smb3seal_session, anonymous), 0, 8, 8);
-    for (size_t i = 0; i < 5; i++) every_byte(function, role, none, offsetof(struct smb3seal_session, spare) + i, 0, 0, 0);
+    for (size_t i = 0; i < 4; i++) every_byte(function, role, none, offsetof(struct smb3seal_session, spare) + i, 0, 0, 0);
+}
+
+/* A record's key size is a flag like the others: 0 is for keys of 16 bytes. */
+static void every_key_size(enum table_function function, uint16_t cipher)
+{
+    for (uint32_t value = 0; value <= 0xFF; value++) {
+        begin_case(value);
+        struct table_call c = plain_table_call(function, cipher, HEADER);
+        struct call under = under_key(&c);
+        put_transform(&under, value);
+        if (function == TABLE_OPEN) forge(&under);
+        c.table[PLACE].wide = (uint8_t)value;
+        expect_table_answer(&c, (value != 0) == (cipher > 2) ? 0 : 35, "a record's key size");
+    }
 }
 
 /* Each end has one key to seal with and one to open with: with the other role a message that was sealed for this one has a bad tag. */
@@ -259,7 +276,7 @@ static void every_role(void)
     every_byte(TABLE_OPEN, SMB3SEAL_SERVER, at, SIZE_MAX, 9, 0, 1);
 }
 
-/* Adding looks at nothing of the connection but the dialect. */
+/* Adding tests nothing of the connection but the dialect. */
 static void every_other_byte(void)
 {
     for (size_t at = offsetof(struct smb3seal_connection, cipher); at < sizeof(struct smb3seal_connection); at++)
@@ -286,13 +303,13 @@ static void every_used(void)
     }
 }
 
-static void every_dialect(void)
+static void every_dialect(uint16_t cipher)
 {
     for (uint32_t dialect = 0; dialect <= 0xFFFF; dialect++) {
         int known = dialect == 0x0300 || dialect == 0x0302 || dialect == 0x0311;
         begin_case(dialect);
-        struct table_call c = plain_table_call(TABLE_SEAL, 2, HEADER);
-        c.connection.dialect = (uint16_t)dialect;
+        struct table_call c = plain_table_call(TABLE_SEAL, cipher, HEADER);
+        set_table_dialect(&c, (uint16_t)dialect);
         expect_table_answer(&c, known ? 0 : 1, "a dialect, sealing");
         c.function = TABLE_ADD;
         c.id = OTHER_SESSION;
@@ -303,10 +320,10 @@ static void every_dialect(void)
 static void every_cipher(uint16_t dialect)
 {
     for (uint32_t cipher = 0; cipher <= 0xFFFF; cipher++) {
-        int encrypts = cipher == 1 || cipher == 2 || (cipher != 0 && dialect != 0x0311);
+        int encrypts = cipher != 0 && (cipher <= 4 || dialect != 0x0311);
         begin_case(cipher);
         struct table_call c = plain_table_call(TABLE_SEAL, (uint16_t)cipher, HEADER);
-        c.connection.dialect = dialect;
+        set_table_dialect(&c, dialect);
         expect_table_answer(&c, encrypts ? 0 : 1, "a cipher, sealing");
         c.function = TABLE_OPEN;
         c.connection.role = SMB3SEAL_SERVER;
@@ -352,16 +369,18 @@ int main(int argc, char **argv)
     every_id_bit();
     every_adding();
     removing();
-    for (uint16_t cipher = 1; cipher <= 2; cipher++) {
+    for (uint16_t cipher = 1; cipher <= CIPHERS; cipher++) {
+        every_key_size(TABLE_SEAL, cipher);
+        every_key_size(TABLE_OPEN, cipher);
         sums(cipher);
         every_set(TABLE_SEAL, cipher, SMB3SEAL_CLIENT, seal_faults, COUNT(seal_faults));
         every_open_set(cipher);
     }
-    every_dialect();
+    every_dialect(2);
+    every_dialect(4);
     every_cipher(0x0300);
     every_cipher(0x0302);
     every_cipher(0x0311);
-    limits(1);
-    limits(2);
+    for (uint16_t cipher = 1; cipher <= CIPHERS; cipher++) limits(cipher);
     return finish();
 }

@@ -140,6 +140,7 @@ class Lab:
         self.dialect, self.cipher = dialect, cipher
         self.connection = self.session = bytes(64)
         self.table = {}
+        self.wide, self.gcm = (dialect == 0x0311 and cipher in numbers for numbers in ((3, 4), (2, 4)))
 
     def folded(self, chain, message, response):
         """The number, and the chain afterwards."""
@@ -153,8 +154,8 @@ class Lab:
         """From the client to the server, and back."""
 
         def derived(label, context):
-            text = b"\0\0\0\1" + label + b"\0" + context + b"\0\0\0\x80"
-            return hmac.new(key, text, hashlib.sha256).digest()[:16]
+            text = b"\0\0\0\1" + label + b"\0" + context + (b"\0\0\1\0" if self.wide else b"\0\0\0\x80")
+            return hmac.new(key, text, hashlib.sha256).digest()[: 32 if self.wide else 16]
 
         if self.dialect == 0x0311:
             return [derived(label, chain) for label in LABELS_311]
@@ -174,10 +175,10 @@ class Lab:
         return 0
 
     def encrypts(self):
-        return self.dialect in DIALECTS and (self.cipher in (1, 2) if self.dialect == 0x0311 else self.cipher != 0)
+        return self.dialect in DIALECTS and (self.cipher in (1, 2, 3, 4) if self.dialect == 0x0311 else self.cipher != 0)
 
     def decrypted(self, m, key):
-        if self.dialect == 0x0311 and self.cipher == 2:
+        if self.gcm:
             return AESGCM(key).decrypt(m[20:32], m[52:] + m[4:20], m[20:52])
         return AESCCM(key, tag_length=16).decrypt(m[20:31], m[52:] + m[4:20], m[20:52])
 
@@ -192,7 +193,7 @@ class Lab:
             return 4
         if little(m, 42, 2) != 1:
             return 5
-        if self.dialect == 0x0311 and self.cipher == 2 and any(m[32:36]):
+        if self.gcm and any(m[32:36]):
             return 29
         identity = little(m, 44, 8)
         if identity not in self.table:
@@ -209,7 +210,7 @@ class Lab:
         """A message as the other end would make it, or with another size in its header; the nonce field has 16 bytes."""
         data = nonce + (len(inner) if size is None else size).to_bytes(4, "little") + b"\0\0\1\0" + identity.to_bytes(8, "little")
         key = self.table[identity][int(from_server)]
-        if self.dialect == 0x0311 and self.cipher == 2:
+        if self.gcm:
             out = AESGCM(key).encrypt(nonce[:12], inner, data)
         else:
             out = AESCCM(key, tag_length=16).encrypt(nonce[:11], inner, data)

@@ -30,7 +30,7 @@ enum { FROM_CLIENT = 0, FROM_SERVER = 1 };
 /* n inner bytes with these headers, from this role, get this number, or 0 and this count of headers visited. */
 static void walk_from(uint32_t role, size_t n, const struct header *headers, size_t count, uint32_t number, uint64_t visited)
 {
-    for (uint16_t cipher = 1; cipher <= 2; cipher++) {
+    for (uint16_t cipher = 1; cipher <= 4; cipher++) {
         struct call c = plain_call(SEAL, cipher, n);
         c.role = role;
         write_headers(&c, headers, count);

@@ -17,12 +17,13 @@ pub struct Session {
     pub counter: u64,
     pub signing: [u8; 16],
     pub application: [u8; 16],
-    pub client_to_server: [u8; 16],
-    pub server_to_client: [u8; 16],
+    pub client_to_server: [u8; 32],
+    pub server_to_client: [u8; 32],
     pub used: u8,
     pub guest: u8,
     pub anonymous: u8,
-    pub spare: [u8; 5],
+    pub wide: u8,
+    pub spare: [u8; 4],
 }
 
 #[derive(Clone, Copy)]
@@ -87,6 +88,7 @@ extern "C" {
     ) -> FoldStep;
     pub fn smb3seal_derive(
         dialect: u16,
+        cipher: u16,
         material: *const u8,
         material_len: usize,
         chain: *const u8,

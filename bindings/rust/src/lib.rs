@@ -3,7 +3,7 @@
 //!
 //! A thin, safe layer over the functions of `libsmb3seal.a`, which are proved for all inputs. What the C header asks of a caller (no
 //! overlap, lengths that are true, no null pointer) holds here by the types; lengths of keys and hash values are part of their types
-//! too, so that number 40 does not arise.
+//! too, so that number 40 says one thing alone: a [`CipherKey`] of the other size than the cipher's.
 //!
 //! With a session [`Table`] the library keeps keys and counters and picks the right ones. Under one key ([`seal`], [`open`]) that is
 //! the caller's part; a [`Sealer`] keeps one counter.
@@ -45,6 +45,7 @@
 //! ```
 #![warn(missing_docs)]
 
+mod cipher_key;
 mod connection;
 mod ffi;
 mod pieces;
@@ -54,6 +55,7 @@ mod signing;
 mod table;
 mod trace;
 
+pub use cipher_key::CipherKey;
 pub use connection::{Connection, Role};
 pub use pieces::FoldedPieces;
 pub use refusal::Refusal;
@@ -69,7 +71,10 @@ pub const HEADER_BYTES: usize = 52;
 /// The most bytes behind the transform header, and of a message that is folded, signed or verified.
 pub const LONGEST_MESSAGE: usize = 8_454_144;
 
-/// A cipher or signing key.
+/// The most bytes of key material that cipher keys of 256 bits come from.
+pub const LONGEST_MATERIAL: usize = 65_536;
+
+/// A signing or application key.
 pub type Key = [u8; 16];
 
 /// A dialect, as MS-SMB2 numbers it. Any number may stand here; those that are no SMB 3 dialect are refused.
@@ -94,6 +99,16 @@ impl Cipher {
     pub const AES_128_CCM: Cipher = Cipher(1);
     /// AES-128-GCM
     pub const AES_128_GCM: Cipher = Cipher(2);
+    /// AES-256-CCM, on 3.1.1 alone
+    pub const AES_256_CCM: Cipher = Cipher(3);
+    /// AES-256-GCM, on 3.1.1 alone
+    pub const AES_256_GCM: Cipher = Cipher(4);
+
+    /// Whether cipher keys have 32 bytes on this dialect; else they have 16.
+    pub const fn is_wide(self, dialect: Dialect) -> bool {
+        dialect.0 == Dialect::SMB_3_1_1.0
+            && matches!(self, Cipher::AES_256_CCM | Cipher::AES_256_GCM)
+    }
 }
 
 /// What a connection has agreed on.
@@ -174,38 +189,63 @@ pub struct Keys {
     /// For the application above.
     pub application: Key,
     /// A client seals with it, a server opens with it.
-    pub client_to_server: Key,
+    pub client_to_server: CipherKey,
     /// A server seals with it, a client opens with it.
-    pub server_to_client: Key,
+    pub server_to_client: CipherKey,
 }
 
 impl Keys {
-    /// Derives the keys from the session key of the authentication, of any length but 0: its first 16 bytes count, padded with
-    /// zeros at the right. `chain` counts on 3.1.1 alone. Refuses with [`Refusal::UNKNOWN_DIALECT`] or
-    /// [`Refusal::NO_KEY_MATERIAL`].
-    pub fn derive(dialect: Dialect, material: &[u8], chain: &Chain) -> Result<Self, Refusal> {
-        let mut keys = [[0; 16]; 4];
+    /// Derives the keys from the key of the authentication, of any length but 0: its first 16 bytes count, padded with zeros at the
+    /// right; but cipher keys of 256 bits come from all of it, up to [`LONGEST_MATERIAL`]. `chain` counts on 3.1.1 alone. Refuses
+    /// with [`Refusal::UNKNOWN_DIALECT`] or [`Refusal::BAD_KEY_MATERIAL`].
+    pub fn derive(
+        dialect: Dialect,
+        cipher: Cipher,
+        material: &[u8],
+        chain: &Chain,
+    ) -> Result<Self, Refusal> {
+        let mut keys = [0; 96];
+        let wide = cipher.is_wide(dialect);
+        let place = if wide { &mut keys[..] } else { &mut keys[..64] };
         // SAFETY: the pointers come from references that live through the call, with their own lengths; `keys` is a local of its
-        // own, and its 64 bytes are contiguous.
+        // own.
         let number = unsafe {
             ffi::smb3seal_derive(
                 dialect.0,
+                cipher.0,
                 material.as_ptr(),
                 material.len(),
                 chain.0.as_ptr(),
                 64,
-                keys.as_mut_ptr().cast(),
-                64,
+                place.as_mut_ptr(),
+                place.len(),
             )
         };
-        let [signing, application, client_to_server, server_to_client] = keys;
+        let (client_to_server, server_to_client) = if wide {
+            (
+                bytes_at::<32>(&keys, 32).into(),
+                bytes_at::<32>(&keys, 64).into(),
+            )
+        } else {
+            (
+                bytes_at::<16>(&keys, 32).into(),
+                bytes_at::<16>(&keys, 48).into(),
+            )
+        };
         Refusal::check(number).map(|()| Keys {
-            signing,
-            application,
+            signing: bytes_at(&keys, 0),
+            application: bytes_at(&keys, 16),
             client_to_server,
             server_to_client,
         })
     }
+}
+
+/// The bytes from this place on.
+fn bytes_at<const N: usize>(bytes: &[u8], at: usize) -> [u8; N] {
+    let mut found = [0; N];
+    found.copy_from_slice(&bytes[at..at + N]);
+    found
 }
 
 impl fmt::Debug for Keys {
@@ -222,11 +262,11 @@ impl fmt::Debug for Keys {
 /// `counter` is the send counter of this key: it becomes the nonce, and is then one more. Start it at 0 for a new key, and never
 /// seal twice under one key with one value; a [`Sealer`] keeps it for you.
 ///
-/// Refuses with the numbers 1, 2, 3 and 11 to 17.
+/// Refuses with the numbers 1, 2, 3 and 11 to 17, and with 40 a key of the other size than the cipher's.
 pub fn seal(
     role: Role,
     protection: &Protection,
-    key: &Key,
+    key: &CipherKey,
     session_id: u64,
     counter: &mut u64,
     message: &mut [u8],
@@ -240,8 +280,8 @@ pub fn seal(
             protection.dialect.0,
             protection.encryption.into(),
             protection.cipher.0,
-            key.as_ptr(),
-            key.len(),
+            key.as_bytes().as_ptr(),
+            key.as_bytes().len(),
             session_id,
             counter,
             message.as_mut_ptr(),
@@ -258,11 +298,11 @@ pub fn seal(
 /// `role` is that of the end that opens: a client opens break notices. `session_id` is the session that the caller looked up by the
 /// header. A message that arrives twice opens twice: whether its MessageId was seen before is for the caller to check.
 ///
-/// Refuses with the numbers 1 to 6, 9 to 16 and 29.
+/// Refuses with the numbers 1 to 6, 9 to 16 and 29, and with 40 a key of the other size than the cipher's.
 pub fn open(
     role: Role,
     protection: &Protection,
-    key: &Key,
+    key: &CipherKey,
     session_id: u64,
     message: &mut [u8],
 ) -> Result<u64, Refusal> {
@@ -274,8 +314,8 @@ pub fn open(
             protection.dialect.0,
             protection.encryption.into(),
             protection.cipher.0,
-            key.as_ptr(),
-            key.len(),
+            key.as_bytes().as_ptr(),
+            key.as_bytes().len(),
             session_id,
             message.as_mut_ptr(),
             message.len(),

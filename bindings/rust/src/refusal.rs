@@ -46,7 +46,7 @@ refusals! {
     NEXT_UNALIGNED = 16, "NextCommand is not a multiple of 8";
     COUNTER_USED_UP = 17, "the send counter is used up: end the session and set up a new one";
     UNKNOWN_DIALECT = 18, "the dialect is none of 3.0, 3.0.2 and 3.1.1";
-    NO_KEY_MATERIAL = 19, "the key material is empty";
+    BAD_KEY_MATERIAL = 19, "the key material is empty, or too long for a cipher of 256 bits";
     ID_ZERO = 20, "the id of the session to add is 0";
     ID_TAKEN = 21, "a session with this id is in the table";
     TABLE_FULL = 22, "the session table is full";
@@ -54,6 +54,7 @@ refusals! {
     NOT_SIGNED = 24, "the message is not signed";
     BAD_SIGNATURE = 25, "the signature differs";
     DIRTY_NONCE = 29, "the nonce does not end in zeros";
+    OTHER_KEY_SIZE = 35, "the session was added for a cipher of the other key size";
     UNREADABLE = 36, "the trace cannot be read here, or would not be, or its room is full";
     BAD_LENGTH = 40, "a lent key, chain value, place for keys or place for a signature has the wrong length";
 }

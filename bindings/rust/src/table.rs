@@ -11,18 +11,19 @@ use std::{
 pub struct Session(ffi::Session);
 
 impl Session {
-    /// A free record: 88 zero bytes.
+    /// A free record: 120 zero bytes.
     pub const FREE: Session = Session(ffi::Session {
         id: 0,
         counter: 0,
         signing: [0; 16],
         application: [0; 16],
-        client_to_server: [0; 16],
-        server_to_client: [0; 16],
+        client_to_server: [0; 32],
+        server_to_client: [0; 32],
         used: 0,
         guest: 0,
         anonymous: 0,
-        spare: [0; 5],
+        wide: 0,
+        spare: [0; 4],
     });
 
     /// The session's id, or `None` for a free record.
@@ -41,6 +42,11 @@ impl Session {
     /// Whether it is a guest's or anonymous: nothing is sealed or opened for it.
     pub const fn is_guest_or_anonymous(&self) -> bool {
         self.0.guest != 0 || self.0.anonymous != 0
+    }
+
+    /// Whether its cipher keys have 32 bytes: it was added for a cipher of 256 bits, and is used with such ciphers alone.
+    pub const fn is_wide(&self) -> bool {
+        self.0.wide != 0
     }
 
     /// The key that signs messages.
@@ -78,7 +84,8 @@ pub struct Login<'a> {
     pub guest: bool,
     /// The session is anonymous.
     pub anonymous: bool,
-    /// The session key of the authentication, of any length but 0. Each login has its own: a session that is added again from the
+    /// The key of the authentication, of any length but 0, and for a cipher of 256 bits at most [`crate::LONGEST_MATERIAL`]; then
+    /// the cipher keys come from all of it, and else every key from its first 16 bytes. Each login has its own: a session that is added again from the
     /// same key and hash value begins again at the first nonce, under the same keys.
     pub material: &'a [u8],
     /// The session's preauthentication hash value; it counts on 3.1.1 alone.
@@ -133,8 +140,8 @@ impl Sessions {
         (place < self.0.len()).then_some(place)
     }
 
-    /// Adds a session: the first free record gets its keys, and counter 0. Of the connection the dialect counts. Refuses with the
-    /// numbers 18 to 22.
+    /// Adds a session: the first free record gets its keys, and counter 0. Of the connection the dialect and the
+    /// cipher count. Refuses with the numbers 18 to 22.
     pub fn add(&mut self, connection: &Connection, login: &Login<'_>) -> Result<(), Refusal> {
         let chain = login.chain.as_bytes();
         // SAFETY: the pointers come from references that live through the call, with their own lengths; the table is borrowed
@@ -165,7 +172,8 @@ impl Sessions {
     }
 
     /// Seals in place for a session, as [`crate::seal`] does under a key, with the session's next counter value and the key of the
-    /// connection's role. Returns the number of inner headers. Refuses with the numbers 1, 2, 3, 6, 7, 8 and 11 to 17.
+    /// connection's role. Returns the number of inner headers. Refuses with the numbers 1, 2, 3, 6, 7, 8, 35 and 11
+    /// to 17.
     pub fn seal(
         &mut self,
         connection: &Connection,
@@ -189,7 +197,8 @@ impl Sessions {
     }
 
     /// Opens in place, as [`crate::open`] does under a key, for the session that the transform header names. A message that arrives
-    /// twice opens twice: whether its MessageId was seen before is for the caller to check. Refuses with the numbers 1 to 16 and 29.
+    /// twice opens twice: whether its MessageId was seen before is for the caller to check. Refuses with the numbers 1 to 16, 29
+    /// and 35.
     pub fn open(&self, connection: &Connection, message: &mut [u8]) -> Result<Opened, Refusal> {
         let mut headers = 0;
         // SAFETY: as in `seal`; the table is read alone.

@@ -76,15 +76,15 @@ fn session(name: &str, cipher: Cipher) {
     assert_eq!(chain.as_bytes()[..], bytes(field(text, "final_chain")));
 
     let material = bytes(field(text, "key_material"));
-    let keys = Keys::derive(Dialect::SMB_3_1_1, &material, &chain).expect("keys");
+    let keys = Keys::derive(Dialect::SMB_3_1_1, cipher, &material, &chain).expect("keys");
     assert_eq!(keys.signing[..], bytes(field(text, "SigningKey")));
     assert_eq!(keys.application[..], bytes(field(text, "ApplicationKey")));
     assert_eq!(
-        keys.client_to_server[..],
+        keys.client_to_server.as_bytes(),
         bytes(field(text, "EncryptionKey"))
     );
     assert_eq!(
-        keys.server_to_client[..],
+        keys.server_to_client.as_bytes(),
         bytes(field(text, "DecryptionKey"))
     );
 

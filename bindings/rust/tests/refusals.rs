@@ -1,10 +1,11 @@
 //! What is refused, with which number, and that a refusal changes nothing.
 use smb3seal::{
-    open, seal, sign, verify, Chain, Cipher, Dialect, FoldedPieces, Keys, Protection, Refusal,
-    Role, Sealer, SignedPieces, HEADER_BYTES, LONGEST_MESSAGE,
+    open, seal, sign, verify, Chain, Cipher, CipherKey, Dialect, FoldedPieces, Keys, Protection,
+    Refusal, Role, Sealer, SignedPieces, HEADER_BYTES, LONGEST_MATERIAL, LONGEST_MESSAGE,
 };
 
 const KEY: [u8; 16] = [7; 16];
+const CIPHER_KEY: CipherKey = CipherKey::Bits128(KEY);
 const GCM: Protection = Protection::on(Dialect::SMB_3_1_1, Cipher::AES_128_GCM);
 
 /// Room for the transform header, and one plain header of session 5.
@@ -18,7 +19,7 @@ fn plain(inner: usize) -> Vec<u8> {
 fn sealed(inner: usize) -> Vec<u8> {
     let mut message = plain(inner);
     assert_eq!(
-        seal(Role::Client, &GCM, &KEY, 5, &mut 3, &mut message),
+        seal(Role::Client, &GCM, &CIPHER_KEY, 5, &mut 3, &mut message),
         Ok(1)
     );
     message
@@ -28,7 +29,7 @@ fn sealed(inner: usize) -> Vec<u8> {
 fn opening(protection: &Protection, mut message: Vec<u8>, expected: Refusal) {
     let lent = message.clone();
     assert_eq!(
-        open(Role::Server, protection, &KEY, 5, &mut message),
+        open(Role::Server, protection, &CIPHER_KEY, 5, &mut message),
         Err(expected)
     );
     assert_eq!(message, lent);
@@ -41,7 +42,7 @@ fn sealing(protection: &Protection, from: u64, mut message: Vec<u8>, expected: R
         seal(
             Role::Client,
             protection,
-            &KEY,
+            &CIPHER_KEY,
             5,
             &mut counter,
             &mut message
@@ -168,28 +169,65 @@ fn folds_and_keys() {
     );
     assert_eq!(chain.fold_response(&[0; 64]), Ok(false));
     assert_eq!(chain, Chain::from_bytes([3; 64]));
-    let refused = |dialect, material: &[u8]| Keys::derive(dialect, material, &chain).err();
+    let refused =
+        |dialect, cipher, material: &[u8]| Keys::derive(dialect, cipher, material, &chain).err();
     assert_eq!(
-        refused(Dialect(0x0210), &KEY),
+        refused(Dialect(0x0210), Cipher(1), &KEY),
         Some(Refusal::UNKNOWN_DIALECT)
     );
     assert_eq!(
-        refused(Dialect::SMB_3_0_2, &[]),
-        Some(Refusal::NO_KEY_MATERIAL)
+        refused(Dialect::SMB_3_0_2, Cipher(1), &[]),
+        Some(Refusal::BAD_KEY_MATERIAL)
     );
+    let long = vec![7; LONGEST_MATERIAL + 1];
+    for (dialect, cipher, expected) in [
+        (
+            Dialect::SMB_3_1_1,
+            Cipher::AES_256_GCM,
+            Some(Refusal::BAD_KEY_MATERIAL),
+        ),
+        (Dialect::SMB_3_1_1, Cipher::AES_128_GCM, None),
+        (Dialect::SMB_3_0_2, Cipher::AES_256_GCM, None),
+    ] {
+        assert_eq!(refused(dialect, cipher, &long), expected);
+        assert_eq!(refused(dialect, cipher, &long[1..]), None);
+    }
+}
+
+/// A key of the other size than the cipher's, both ways: 40, and nothing changes.
+#[test]
+fn keys_of_the_other_size() {
+    let wide = Protection::on(Dialect::SMB_3_1_1, Cipher::AES_256_CCM);
+    let below = Protection::on(Dialect::SMB_3_0_2, Cipher::AES_256_CCM);
+    let long = CipherKey::from([7; 32]);
+    for (protection, key) in [(&wide, &CIPHER_KEY), (&GCM, &long), (&below, &long)] {
+        let (mut message, mut counter) = (plain(64), 3);
+        let sealed = seal(Role::Client, protection, key, 5, &mut counter, &mut message);
+        assert_eq!(sealed, Err(Refusal::BAD_LENGTH));
+        let opened = open(Role::Server, protection, key, 5, &mut message);
+        assert_eq!(opened, Err(Refusal::BAD_LENGTH));
+        assert_eq!((message, counter), (plain(64), 3));
+    }
 }
 
 /// A refused message takes no counter value; the next two take 0 and 1.
 #[test]
 fn sealer_keeps_the_counter() {
-    let mut sealer = Sealer::new(Role::Client, GCM, KEY, 5);
+    let mut sealer = Sealer::new(Role::Client, GCM, CIPHER_KEY, 5);
     assert_eq!(sealer.seal(&mut plain(63)), Err(Refusal::INNER_TOO_SHORT));
     for nonce in 0..2 {
         let (mut message, mut counter) = (plain(64), nonce);
         let mut expected = message.clone();
         assert_eq!(sealer.seal(&mut message), Ok(1));
         assert_eq!(
-            seal(Role::Client, &GCM, &KEY, 5, &mut counter, &mut expected),
+            seal(
+                Role::Client,
+                &GCM,
+                &CIPHER_KEY,
+                5,
+                &mut counter,
+                &mut expected
+            ),
             Ok(1)
         );
         assert_eq!(message, expected);
@@ -205,7 +243,7 @@ fn break_notices() {
     notice[76..84].fill(0xFF);
     notice[92] = 0;
     sealing(&GCM, 9, notice.clone(), Refusal::INNER_SESSION);
-    let mut server = Sealer::new(Role::Server, GCM, KEY, 5);
+    let mut server = Sealer::new(Role::Server, GCM, CIPHER_KEY, 5);
     for place in [64, 83, 92] {
         let mut near = notice.clone();
         near[place] ^= 1;
@@ -214,14 +252,15 @@ fn break_notices() {
     let mut sealed = notice.clone();
     assert_eq!(server.seal(&mut sealed), Ok(1));
     opening(&GCM, sealed.clone(), Refusal::INNER_SESSION);
-    assert_eq!(open(Role::Client, &GCM, &KEY, 5, &mut sealed), Ok(1));
+    assert_eq!(open(Role::Client, &GCM, &CIPHER_KEY, 5, &mut sealed), Ok(1));
     assert_eq!(sealed[52..], notice[52..]);
 }
 
 #[test]
 fn keys_are_not_printed() {
-    let keys = Keys::derive(Dialect::SMB_3_0, &KEY, &Chain::fresh()).expect("keys");
+    let keys = Keys::derive(Dialect::SMB_3_0, Cipher(1), &KEY, &Chain::fresh()).expect("keys");
     assert_eq!(format!("{keys:?}"), "Keys { .. }");
+    assert_eq!(format!("{CIPHER_KEY:?}"), "CipherKey { .. }");
 }
 
 /// Names, numbers and texts are those of the C headers, no more and no fewer.

@@ -1,10 +1,11 @@
 //! Session tables: two ends, refusals that change nothing, and the structs as the header has them.
 use smb3seal::{
     open, seal, Chain, Cipher, Connection, Dialect, Keys, Login, Opened, Protection, Refusal, Role,
-    Session, Sessions, Table, HEADER_BYTES,
+    Session, Sessions, Table, HEADER_BYTES, LONGEST_MATERIAL,
 };
 
 const KEY: [u8; 16] = [7; 16];
+const MATERIAL: [u8; 40] = [9; 40];
 const GCM: Protection = Protection::on(Dialect::SMB_3_1_1, Cipher::AES_128_GCM);
 const CCM: Protection = Protection::on(Dialect::SMB_3_0, Cipher(3));
 const CLIENT: Connection = Connection::new(Role::Client, GCM);
@@ -33,8 +34,8 @@ fn seen(table: &Sessions) -> Vec<Seen> {
 /// What one end seals the other opens, and it is what the calls under one key do.
 fn both_ways(agreed: Protection) {
     let chain = Chain::from_bytes([3; 64]);
-    let keys = Keys::derive(agreed.dialect, &KEY, &chain).expect("keys");
-    let login = Login::new(0xFEDC_BA98_7654_3210, &KEY, &chain);
+    let keys = Keys::derive(agreed.dialect, agreed.cipher, &MATERIAL, &chain).expect("keys");
+    let login = Login::new(0xFEDC_BA98_7654_3210, &MATERIAL, &chain);
     let ends = [Role::Client, Role::Server].map(|role| Connection::new(role, agreed));
     let mut tables = [Table::<2>::new(), Table::<2>::new()];
     for (table, end) in tables.iter_mut().zip(&ends) {
@@ -101,6 +102,47 @@ fn both_ways_below_311() {
     both_ways(CCM);
 }
 
+#[test]
+fn both_ways_with_256_bits() {
+    both_ways(Protection::on(Dialect::SMB_3_1_1, Cipher::AES_256_CCM));
+    both_ways(Protection::on(Dialect::SMB_3_1_1, Cipher::AES_256_GCM));
+}
+
+/// A wide and a narrow session in one table: each with ciphers of its own size, and 35 with the others, which changes nothing.
+#[test]
+fn both_key_sizes() {
+    let chain = Chain::fresh();
+    let on = |cipher| Connection::new(Role::Client, Protection::on(Dialect::SMB_3_1_1, cipher));
+    let (narrow, wide) = (on(Cipher::AES_128_GCM), on(Cipher::AES_256_GCM));
+    let mut table = Table::<2>::new();
+    assert_eq!(
+        table.add(&narrow, &Login::new(5, &MATERIAL, &chain)),
+        Ok(())
+    );
+    assert_eq!(table.add(&wide, &Login::new(6, &MATERIAL, &chain)), Ok(()));
+    let sizes: Vec<bool> = table.records().iter().map(Session::is_wide).collect();
+    assert_eq!(sizes, [false, true]);
+    for (id, right, other) in [(5, narrow, wide), (6, wide, narrow)] {
+        let mut message = plain(id);
+        assert_eq!(
+            table.seal(&other, id, &mut message),
+            Err(Refusal::OTHER_KEY_SIZE)
+        );
+        assert_eq!(message, plain(id));
+        assert_eq!(table.seal(&right, id, &mut message), Ok(1));
+        let (before, sealed) = (seen(&table), message.clone());
+        assert_eq!(
+            table.open(&other, &mut message),
+            Err(Refusal::OTHER_KEY_SIZE)
+        );
+        assert_eq!((message, seen(&table)), (sealed, before));
+    }
+    let long = vec![1; LONGEST_MATERIAL + 1];
+    let login = Login::new(7, &long, &chain);
+    assert_eq!(table.add(&wide, &login), Err(Refusal::BAD_KEY_MATERIAL));
+    assert_eq!(table.add(&narrow, &login), Err(Refusal::TABLE_FULL));
+}
+
 /// Adds, finds, fills and removes over records that a vector holds; each refusal leaves what can be seen.
 #[test]
 fn over_a_lent_slice() {
@@ -125,7 +167,7 @@ fn over_a_lent_slice() {
         (
             &SERVER,
             Login::new(0, &[], &chain),
-            Refusal::NO_KEY_MATERIAL,
+            Refusal::BAD_KEY_MATERIAL,
         ),
         (&other, Login::new(0, &[], &chain), Refusal::UNKNOWN_DIALECT),
     ] {
@@ -229,7 +271,7 @@ fn in_rust(line: &str) -> Option<(String, String)> {
 fn structs_are_those_of_the_header() {
     let header = include_str!("../../../include/smb3seal.h");
     let ffi = include_str!("../src/ffi.rs");
-    for (c, rust, count) in [("connection", "Connection", 6), ("session", "Session", 10)] {
+    for (c, rust, count) in [("connection", "Connection", 6), ("session", "Session", 11)] {
         let said = fields(header, &format!("\nstruct smb3seal_{c} {{\n"), in_c);
         assert_eq!(said.len(), count);
         assert_eq!(
@@ -237,6 +279,6 @@ fn structs_are_those_of_the_header() {
             fields(ffi, &format!("\npub struct {rust} {{\n"), in_rust)
         );
     }
-    assert_eq!(std::mem::size_of::<Session>(), 88);
+    assert_eq!(std::mem::size_of::<Session>(), 120);
     assert_eq!(std::mem::align_of::<Session>(), 8);
 }

@@ -4,3 +4,4 @@ pub use Rattle.rijndael.specs.Cipher
 pub use Rattle.rijndael.specs.KeyExpansion
 pub use Rattle.rijndael.specs.BlockCipher
 pub use Rattle.aes_tables.specs.Tables
+pub mod KeySizes

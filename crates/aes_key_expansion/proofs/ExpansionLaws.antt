@@ -1,118 +1,151 @@
--- The key expansion of a key of four words is a chain of round keys, each made of the one before.
-use mathlib.Core.Path.{_≡_, refl, _∙_, ap}
-use mathlib.Core.List.{List, [], _∷_, _++_, reverse}
-use Prim.Native.Nat.{ℕ, zero, suc, _+_, _-_, _*_, _/_, _%_}
+-- The key expansion goes on by a round key: four words, made of those nk places before and of the last word. Said once over nk, and then
+-- for a key of four words and for one of eight, which differ in when the last word is substituted.
+use mathlib.Core.Bool.{Bool, true, false, cond, _&&_}
+use mathlib.Core.Path.{_≡_, refl, _∙_, ap, sym}
+use mathlib.Core.List.{List, [], _∷_, _++_, map, reverse}
+use Prim.Native.Nat.{ℕ, suc, _+_, _-_, _*_, _/_, _%_, _<_}
 use native.Mathlib.Omega.{arith}
+use borrow.Author.Tests.{ne-eqb}
+use lib.Dec.{eqb, ltb}
 use lib.ListN.{length, getD}
 use Rattle.octets.proofs.Elements.{whole}
-use Rattle.rijndael.specs.Field.{xtimes}
 use Rattle.rijndael.specs.KeyExpansion.{keyExpansion, roundKeys, words, keyWords, temp, rcon, xpower, wordOf, xorWord, subWord, rotWord}
-use Rattle.aes_key_expansion.specs.NextKey.{nextWord, nextKey, chain}
+use Rattle.aes_key_expansion.specs.NextKey.{nextWord, nextKey, atMultiple, atMiddle}
 
--- w[i - 1] is taken in by itself, but for the first word of a round key
-temp-first : (i j : ℕ) (w : List ℕ) → i % 4 ≡ 0 → i / 4 - 1 ≡ j → temp 4 i w ≡ xorWord (subWord (rotWord w)) (xpower j ∷ 0 ∷ 0 ∷ 0 ∷ [])
+-- ---- what a word takes in of the word before it, by its place
+
+-- at a multiple of nk
+temp-multiple : (nk i c : ℕ) (w : List ℕ) → i % nk ≡ 0 → xpower (i / nk - 1) ≡ c → temp nk i w ≡ xorWord (subWord (rotWord w)) (c ∷ 0 ∷ 0 ∷ 0 ∷ [])
 unfolding temp rcon
-temp-first i j w e d = rw (e, d)
+temp-multiple nk i c w e d = rw (e, d)
 
-temp-later : (i r : ℕ) (w : List ℕ) → i % 4 ≡ suc r → temp 4 i w ≡ w
+-- four more than a multiple of eight
+temp-middle : (i : ℕ) (w : List ℕ) → i % 8 ≡ 4 → temp 8 i w ≡ subWord w
 unfolding temp
-temp-later i zero w e = rw e
-temp-later i (suc zero) w e = rw e
-temp-later i (suc (suc zero)) w e = rw e
-temp-later i (suc (suc (suc r))) w e = absurd (omega arith)
+temp-middle i w e = rw e
 
--- one word more
-more : (n : ℕ) (key v : List ℕ) (ws : List (List ℕ)) → words 4 n key ≡ ws → temp 4 (4 + n) (getD ws 0 []) ≡ v
-    → words 4 (suc n) key ≡ xorWord (getD ws 3 []) v ∷ ws
-unfolding words
-more n key v ws e t = rw (e, t)
+neither : (b : Bool) (v w : List ℕ) → cond (b && false) v w ≡ w
+neither true v w = refl
+neither false v w = refl
+
+temp-plain : (nk i : ℕ) (w : List ℕ) → eqb (i % nk) 0 ≡ false → eqb (i % nk) 4 ≡ false → temp nk i w ≡ w
+unfolding temp
+temp-plain nk i w e f = rw (e, f) (neither (ltb 6 nk) (subWord w) w)
+
+plain-4 : (i : ℕ) (w : List ℕ) → 0 < i % 4 → temp 4 i w ≡ w
+plain-4 i w h = temp-plain 4 i w (ne-eqb (i % 4) 0 (λ e. omega arith)) (ne-eqb (i % 4) 4 (λ e. omega arith))
+
+plain-8 : (i : ℕ) (w : List ℕ) → 0 < i % 4 → temp 8 i w ≡ w
+plain-8 i w h = temp-plain 8 i w (ne-eqb (i % 8) 0 (λ e. omega arith)) (ne-eqb (i % 8) 4 (λ e. omega arith))
+
+-- ---- four words more
 
 -- the words of a round key, the last first, before ws
 abbrev wordsOf : List ℕ → List (List ℕ) → List (List ℕ)
 wordsOf k ws = wordOf k 12 ∷ wordOf k 8 ∷ wordOf k 4 ∷ wordOf k 0 ∷ ws
 
--- one round key more
-step : (n j : ℕ) (key k : List ℕ) (ws : List (List ℕ)) → n ≡ 4 * j → words 4 n key ≡ wordsOf k ws
-    → words 4 (suc (suc (suc (suc n)))) key ≡ wordsOf (nextKey k (xpower j)) (wordsOf k ws)
-unfolding nextKey nextWord wordOf xorWord
-step n j key k ws h e =
-    more (suc (suc (suc n))) key _ _
-    (more (suc (suc n)) key _ _
-    (more (suc n) key _ _ (more n key _ _ e (temp-first (4 + n) j _ (omega arith) (omega arith))) (temp-later (4 + suc n) 0 _ (omega arith)))
-    (temp-later (4 + suc (suc n)) 1 _ (omega arith)))
-    (temp-later (4 + suc (suc (suc n))) 2 _ (omega arith))
+-- one word more
+more : (nk n : ℕ) (key u v : List ℕ) (ws : List (List ℕ)) → words nk n key ≡ ws → temp nk (nk + n) (getD ws 0 []) ≡ v → getD ws (nk - 1) [] ≡ u
+    → words nk (suc n) key ≡ xorWord u v ∷ ws
+unfolding words
+more nk n key u v ws e t g = rw (e, t, g)
 
--- four times j, as steps
-abbrev quad : ℕ → ℕ
-quad zero = zero
-quad (suc j) = suc (suc (suc (suc (quad j))))
+module _ (nk : ℕ) (plain : (i : ℕ) (w : List ℕ) → 0 < i % 4 → temp nk i w ≡ w) where
+  -- where the four words nk places before are those of k
+  step : (n : ℕ) (key k v : List ℕ) (ws : List (List ℕ)) → (nk + n) % 4 ≡ 0 → words nk n key ≡ ws → temp nk (nk + n) (getD ws 0 []) ≡ v
+      → getD ws (nk - 1) [] ≡ wordOf k 0
+      → ((x : List ℕ) → getD (x ∷ ws) (nk - 1) [] ≡ wordOf k 4)
+      → ((x y : List ℕ) → getD (y ∷ x ∷ ws) (nk - 1) [] ≡ wordOf k 8)
+      → ((x y z : List ℕ) → getD (z ∷ y ∷ x ∷ ws) (nk - 1) [] ≡ wordOf k 12)
+      → words nk (suc (suc (suc (suc n)))) key ≡ wordsOf (nextKey k v) ws
+  unfolding nextKey nextWord wordOf xorWord
+  step n key k v ws h e t g0 g1 g2 g3 =
+      more nk (suc (suc (suc n))) key _ _ _
+      (more nk (suc (suc n)) key _ _ _
+      (more nk (suc n) key _ _ _ (more nk n key _ _ _ e t g0) (plain (nk + suc n) _ (omega arith)) (g1 _))
+      (plain (nk + suc (suc n)) _ (omega arith)) (g2 _ _))
+      (plain (nk + suc (suc (suc n))) _ (omega arith)) (g3 _ _ _)
 
-quad-four : (j : ℕ) → quad j ≡ 4 * j
-quad-four zero = refl
-quad-four (suc j) = let ih = quad-four j in omega arith
+-- ---- the round keys so far, the last first
 
--- round key j
-unfoldable roundKey : ℕ → List ℕ → List ℕ
-roundKey zero key = key
-roundKey (suc j) key = nextKey (roundKey j key) (xpower j)
+abbrev allWords : List (List ℕ) → List (List ℕ)
+allWords [] = []
+allWords (k ∷ ks) = wordsOf k (allWords ks)
 
--- the words of the round keys 0 to j, the last first
-abbrev wordsTo : ℕ → List ℕ → List (List ℕ)
-wordsTo zero key = wordsOf key []
-wordsTo (suc j) key = wordsOf (roundKey (suc j) key) (wordsTo j key)
+abbrev joined : List ℕ → List ℕ
+joined k = wordOf k 0 ++ wordOf k 4 ++ wordOf k 8 ++ wordOf k 12
 
-words-are : (j : ℕ) (key : List ℕ) → words 4 (quad j) key ≡ wordsTo j key
-unfolding words keyWords roundKey
-words-are zero key = refl
-words-are (suc zero) key = step zero zero key key [] refl (words-are zero key)
-words-are (suc (suc j)) key = step (quad (suc j)) (suc j) key (roundKey (suc j) key) (wordsTo j key) (quad-four (suc j)) (words-are (suc j) key)
+-- nk + n words of the expansion are made, and they are those of ks
+pub record Made (nk n : ℕ) (key : List ℕ) (ks : List (List ℕ)) : Type 0 where
+  pub are : words nk n key ≡ allWords ks
+  pub each : map joined ks ≡ ks
 
-length-key : (j : ℕ) (key : List ℕ) → length key ≡ 16 → length (roundKey j key) ≡ 16
-unfolding roundKey nextKey nextWord xorWord
-length-key zero key h = h
-length-key (suc j) key h = refl
-
--- a round key is made of its words
-joined : (j : ℕ) (key : List ℕ) → length key ≡ 16
-    → wordOf (roundKey j key) 0 ++ wordOf (roundKey j key) 4 ++ wordOf (roundKey j key) 8 ++ wordOf (roundKey j key) 12 ≡ roundKey j key
+joined-whole : (k : List ℕ) → length k ≡ 16 → joined k ≡ k
 unfolding wordOf
-joined j key h = whole 16 (roundKey j key) (length-key j key h)
+joined-whole k h = whole 16 k h
 
 cons : {a b : List ℕ} {l r : List (List ℕ)} → a ≡ b → l ≡ r → a ∷ l ≡ b ∷ r
 cons p q = cc
 
--- the round keys j to j + n
-abbrev keysFrom : ℕ → ℕ → List ℕ → List (List ℕ)
-keysFrom zero j key = roundKey j key ∷ []
-keysFrom (suc n) j key = roundKey j key ∷ keysFrom n (suc j) key
+length-next : (r k v : List ℕ) → r ≡ nextKey k v → length r ≡ 16
+unfolding nextKey nextWord xorWord
+length-next r k v e = ap length e
 
--- the same, each as its words
-abbrev splitFrom : ℕ → ℕ → List ℕ → List (List ℕ)
-splitFrom zero j key = (wordOf (roundKey j key) 0 ++ wordOf (roundKey j key) 4 ++ wordOf (roundKey j key) 8 ++ wordOf (roundKey j key) 12) ∷ []
-splitFrom (suc n) j key =
-    (wordOf (roundKey j key) 0 ++ wordOf (roundKey j key) 4 ++ wordOf (roundKey j key) 8 ++ wordOf (roundKey j key) 12) ∷ splitFrom n (suc j) key
+-- one round key more
+made : {nk n : ℕ} {key r : List ℕ} (k v : List ℕ) {ks : List (List ℕ)} → words nk (suc (suc (suc (suc n)))) key ≡ wordsOf (nextKey k v) (allWords ks)
+    → map joined ks ≡ ks → r ≡ nextKey k v → Made nk (suc (suc (suc (suc n)))) key (r ∷ ks)
+made {r = r} k v {ks = ks} w s e =
+    record {
+      are = w ∙ ap (λ (x : List ℕ). wordsOf x (allWords ks)) (sym e);
+      each = cons (joined-whole r (length-next r k v e)) s;
+    }
 
-split : (n j : ℕ) (key : List ℕ) → length key ≡ 16 → splitFrom n j key ≡ keysFrom n j key
-split zero j key h = cons (joined j key h) refl
-split (suc n) j key h = cons (joined j key h) (split n (suc j) key h)
+-- all of them
+pub expanded : (nk nr : ℕ) (key : List ℕ) (ks : List (List ℕ)) → roundKeys (nr + 1) 0 (reverse (allWords ks)) ≡ reverse (map joined ks)
+    → Made nk (4 * (nr + 1) - nk) key ks → reverse ks ≡ keyExpansion nk nr key
+unfolding keyExpansion
+expanded nk nr key ks rows m =
+    sym (ap (λ (w : List (List ℕ)). roundKeys (nr + 1) 0 (reverse w)) (m .are) ∙ rows ∙ ap reverse (m .each))
 
-rows : (key : List ℕ) → keyExpansion 4 10 key ≡ splitFrom 10 0 key
-unfolding keyExpansion roundKeys roundKey
-rows key = ap (λ (w : List (List ℕ)). roundKeys 11 0 (reverse w)) (words-are 10 key)
+-- ---- a key of four words
 
--- the first bytes of Rcon, 1 to 10
-abbrev pub rcons : List ℕ
-rcons = 0x01 ∷ 0x02 ∷ 0x04 ∷ 0x08 ∷ 0x10 ∷ 0x20 ∷ 0x40 ∷ 0x80 ∷ 0x1b ∷ 0x36 ∷ []
+pub first-4 : (key : List ℕ) → length key ≡ 16 → Made 4 0 key (key ∷ [])
+unfolding words keyWords
+first-4 key h = record { are = refl; each = cons (joined-whole key h) refl }
 
-pub expanded : (key : List ℕ) → length key ≡ 16 → keyExpansion 4 10 key ≡ chain key rcons
-unfolding roundKey chain xpower xtimes
-expanded key h = rows key ∙ split 10 0 key h
+pub next-4 : (n c : ℕ) {key k r : List ℕ} {ks : List (List ℕ)} → n % 4 ≡ 0 → xpower (n / 4) ≡ c → r ≡ nextKey k (atMultiple k c)
+    → Made 4 n key (k ∷ ks) → Made 4 (suc (suc (suc (suc n)))) key (r ∷ k ∷ ks)
+unfolding atMultiple
+next-4 n c {key} {k} {r} {ks} h x e m =
+    let i : (4 + n) / 4 - 1 ≡ n / 4 = omega arith in
+    let z : (4 + n) % 4 ≡ 0 = omega arith in
+    let t = temp-multiple 4 (4 + n) c _ z (ap xpower i ∙ x) in
+    made k _ (step 4 plain-4 n key k _ _ z (m .are) t refl (λ a. refl) (λ a b. refl) (λ a b d. refl)) (m .each) e
 
--- a chain goes on from the next round key
-pub link : {k n : List ℕ} (c : ℕ) (cs : List ℕ) {ks : List (List ℕ)} → n ≡ nextKey k c → ks ≡ chain n cs → k ∷ ks ≡ chain k (c ∷ cs)
-unfolding chain
-link c cs e f = cc
+-- ---- a key of eight words
 
-pub chain-end : (k : List ℕ) → k ∷ [] ≡ chain k []
-unfolding chain
-chain-end k = refl
+words-of-halves : (k l : List ℕ) → words 8 0 (joined k ++ l) ≡ allWords (l ∷ k ∷ [])
+unfolding words keyWords wordOf
+words-of-halves k l = refl
+
+pub first-8 : (k l : List ℕ) → length k ≡ 16 → length l ≡ 16 → Made 8 0 (k ++ l) (l ∷ k ∷ [])
+first-8 k l hk hl =
+    record {
+      are = ap (λ (x : List ℕ). words 8 0 (x ++ l)) (sym (joined-whole k hk)) ∙ words-of-halves k l;
+      each = cons (joined-whole l hl) (cons (joined-whole k hk) refl);
+    }
+
+pub even-8 : (n c : ℕ) {key k l r : List ℕ} {ks : List (List ℕ)} → n % 8 ≡ 0 → xpower (n / 8) ≡ c → r ≡ nextKey k (atMultiple l c)
+    → Made 8 n key (l ∷ k ∷ ks) → Made 8 (suc (suc (suc (suc n)))) key (r ∷ l ∷ k ∷ ks)
+unfolding atMultiple
+even-8 n c {key} {k} {l} {r} {ks} h x e m =
+    let i : (8 + n) / 8 - 1 ≡ n / 8 = omega arith in
+    let t = temp-multiple 8 (8 + n) c _ (omega arith) (ap xpower i ∙ x) in
+    made k _ (step 8 plain-8 n key k _ _ (omega arith) (m .are) t refl (λ a. refl) (λ a b. refl) (λ a b d. refl)) (m .each) e
+
+pub odd-8 : (n : ℕ) {key k l r : List ℕ} {ks : List (List ℕ)} → n % 8 ≡ 4 → r ≡ nextKey k (atMiddle l)
+    → Made 8 n key (l ∷ k ∷ ks) → Made 8 (suc (suc (suc (suc n)))) key (r ∷ l ∷ k ∷ ks)
+unfolding atMiddle
+odd-8 n {key} {k} {l} {r} {ks} h e m =
+    let t = temp-middle (8 + n) _ (omega arith) in
+    made k _ (step 8 plain-8 n key k _ _ (omega arith) (m .are) t refl (λ a. refl) (λ a b. refl) (λ a b d. refl)) (m .each) e

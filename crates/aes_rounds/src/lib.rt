@@ -1,6 +1,6 @@
 // The rounds of the cipher (FIPS 197, 5.1), on columns. SHIFTROWS is in the choice of the columns that a byte is taken from.
 ghost use mathlib.Core.Path.{_≡_};
-ghost use Prim.Native.Nat.{_-_, _<_};
+ghost use Prim.Native.Nat.{_<_};
 ghost use lib.ListN.{length};
 ghost use Rattle.rijndael.specs.Field.{sbox, mul};
 ghost use Rattle.rijndael.specs.Cipher.{cipher, addRoundKey, mixColumns, shiftRows, subBytes};
@@ -109,16 +109,16 @@ fn last_round(t: &[u32; 256], s: Columns, k: Columns) -> Columns
     }
 }
 
-pub fn encrypt(t: &[u32; 256], keys: &[[u8; 16]], block: Columns) -> Columns
-    requires { ⌜ (1 < length (now keys)) × SubMixTable (now t) ⌝ }
-    ensures { λ r. ⌜ stateOf r ≡ cipher (length (now (keys .entry)) - 1) (now (keys .entry)) (stateOf block) ⌝ }
+// Each key size has its number of rounds. Round keys after the last one are not read.
+pub fn encrypt(t: &[u32; 256], keys: &[[u8; 16]], rounds: usize, block: Columns) -> Columns
+    requires { ⌜ (0 < rounds) × (rounds < length (now keys)) × SubMixTable (now t) ⌝ }
+    ensures { λ r. ⌜ stateOf r ≡ cipher rounds (now (keys .entry)) (stateOf block) ⌝ }
 {
-    let n = keys.len() - 2;
     let mut s = add_round_key(block, load(keys[0]));
-    let mut r: usize = 0;
-    while r < n {
-        s = round(t, s, load(keys[r + 1]));
+    let mut r: usize = 1;
+    while r < rounds {
+        s = round(t, s, load(keys[r]));
         r += 1;
     }
-    last_round(t, s, load(keys[n + 1]))
+    last_round(t, s, load(keys[rounds]))
 }

@@ -1,11 +1,11 @@
 -- The two ways out of opening: the tag is right, or the key stream is applied again.
 -- Assumes nothing.
-use mathlib.Core.Bool.{true, false}
+use mathlib.Core.Bool.{Bool, true, false}
 use mathlib.Core.List.{List}
 use mathlib.Core.Path.{_≡_, ap, _∙_}
 use Prim.Native.Nat.{ℕ}
 use Rattle.octets.specs.Same.{sameBytes}
-use Rattle.ccm.specs.Contracts.{Opened}
+use Rattle.ccm.specs.Contracts.{Sealed, Opened}
 use Rattle.ccm.specs.Ccm.{encrypt, tag}
 use Rattle.ccm.specs.General as general
 use Rattle.ccm.proofs.CcmLaws.{encrypt-twice}
@@ -22,3 +22,11 @@ module _ (E : List ℕ → List ℕ) (nonce aad received body mid u : List ℕ) 
   opened-wrong last s el =
       let q : sameBytes received (tag E nonce aad (encrypt E nonce body)) ≡ false = rw (← em, ← eu) s in
       record { right = rw q; bytes = rw q (el ∙ ap (encrypt E nonce) em ∙ encrypt-twice E 4 nonce body) }
+
+-- the same cipher by another name
+pub sealed-under : {E F : List ℕ → List ℕ} {nonce aad text text′ t : List ℕ} → E ≡ F → Sealed E nonce aad text text′ t → Sealed F nonce aad text text′ t
+sealed-under e s = rw e at s
+
+pub opened-under : {E F : List ℕ → List ℕ} {nonce aad t body body′ : List ℕ} {r : Bool} → E ≡ F → Opened E nonce aad t body body′ r
+    → Opened F nonce aad t body body′ r
+opened-under e s = rw e at s

@@ -1,4 +1,5 @@
 // The last block of a message (SP 800-38B, 6.2, step 4), and the subkeys that it is xored with (6.1).
+use crate::cipher::encrypt_block;
 use runs::copy;
 ghost use mathlib.Core.Path.{_≡_};
 ghost use Prim.Native.Nat.{_*_, _≤_};
@@ -35,7 +36,7 @@ pub fn last_block(t: &[u32; 256], keys: [[u8; 16]; 11], part: &[u8]) -> [u8; 16]
     requires { ⌜ SubMixTable (now t) × (length (now part) ≤ 16) ⌝ }
     ensures { λ r. ⌜ r ≡ lastBlock (blockCipher keys) (now (part .entry)) ⌝ }
 {
-    let k1 = double(aes::encrypt_block(t, keys, [0u8; 16]));
+    let k1 = double(encrypt_block(t, keys, [0u8; 16]));
     let k2 = double(k1);
     let mut block = blocks::block_at(part, 0);
     if part.len() == 16 {

@@ -1,4 +1,5 @@
 // AES-CMAC (SP 800-38B, RFC 4493), of a message at once and in pieces.
+mod cipher;
 mod last;
 
 use blocks::at_most_16;
@@ -52,10 +53,10 @@ impl Mac {
             };
         }
         copy(&mut buffer, n, &piece[..room]);
-        let first = cbc_mac::chain(t, keys, chain, &buffer);
+        let first = cipher::chain(t, keys, chain, &buffer);
         let rest = &piece[room..];
         let whole = (rest.len() - 1) / 16 * 16;
-        let next = cbc_mac::chain(t, keys, first, &rest[..whole]);
+        let next = cipher::chain(t, keys, first, &rest[..whole]);
         copy(&mut buffer, 0, &rest[whole..]);
         Mac {
             chain: next,
@@ -72,7 +73,7 @@ impl Mac {
         let chain = self.chain;
         let buffer = self.buffer;
         let last = last_block(t, keys, &buffer[..n]);
-        cbc_mac::chain(t, keys, chain, &last)
+        cipher::chain(t, keys, chain, &last)
     }
 }
 

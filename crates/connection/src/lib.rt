@@ -2,7 +2,7 @@
 ghost use mathlib.Core.Path.{_≡_};
 ghost use Prim.Native.Nat.{_+_};
 ghost use lib.Dec.{leb};
-ghost use Rattle.protocol.specs.Connection.{knownDialect, encrypts, cipherUsed, usesGcm, longestMessage, lastCounter};
+ghost use Rattle.protocol.specs.Connection.{knownDialect, encrypts, cipherUsed, isGcm, usesGcm, isWide, usesWide, cipherKeyBytes, placeBytes, longestMessage, longestMaterial, lastCounter};
 ghost use Rattle.connection.specs.Reading.{bitOf, connectionOf, underKey};
 
 pub const CLIENT: u8 = 0;
@@ -38,6 +38,13 @@ pub fn fits(length: u64, more: usize) -> bool
     (more as u64) <= longest - length
 }
 
+// Number 19, of key material that cipher keys of 32 bytes come from.
+pub fn longest_material() -> usize
+    ensures { λ r. ⌜ r ≡ longestMaterial ⌝ }
+{
+    65536
+}
+
 // Number 17: 2^64 - 1.
 pub fn last_counter() -> u64
     ensures { λ r. ⌜ r ≡ lastCounter ⌝ }
@@ -55,7 +62,7 @@ pub fn known_dialect(dialect: u16) -> bool
 pub fn encrypting(c: Connection) -> bool
     ensures { λ r. ⌜ r ≡ encrypts (connectionOf c) ⌝ }
 {
-    let named = !(c.dialect == 0x0311) | (c.cipher == 1) | (c.cipher == 2);
+    let named = !(c.dialect == 0x0311) | (c.cipher <= 4);
     let agreed = (c.encryption != 0) & (c.role <= 1) & (c.spare == 0);
     known_dialect(c.dialect) & agreed & !(c.cipher == 0) & named
 }
@@ -67,11 +74,45 @@ pub fn cipher_used(c: Connection) -> u16
     if c.dialect == 0x0311 { c.cipher } else { 1 }
 }
 
+// AES-128-GCM and AES-256-GCM.
+pub fn is_gcm(cipher: u16) -> bool
+    ensures { λ r. ⌜ r ≡ isGcm cipher ⌝ }
+{
+    (cipher == 2) | (cipher == 4)
+}
+
 // Number 29 may be given.
 pub fn uses_gcm(c: Connection) -> bool
     ensures { λ r. ⌜ r ≡ usesGcm (connectionOf c) ⌝ }
 {
-    cipher_used(c) == 2
+    is_gcm(cipher_used(c))
+}
+
+// AES-256-CCM and AES-256-GCM: on 3.1.1 alone.
+pub fn is_wide(dialect: u16, cipher: u16) -> bool
+    ensures { λ r. ⌜ r ≡ isWide dialect cipher ⌝ }
+{
+    (dialect == 0x0311) & ((cipher == 3) | (cipher == 4))
+}
+
+pub fn uses_wide(c: Connection) -> bool
+    ensures { λ r. ⌜ r ≡ usesWide (connectionOf c) ⌝ }
+{
+    is_wide(c.dialect, c.cipher)
+}
+
+// Numbers 35 and 40.
+pub fn cipher_key_bytes(wide: bool) -> usize
+    ensures { λ r. ⌜ r ≡ cipherKeyBytes wide ⌝ }
+{
+    if wide { 32 } else { 16 }
+}
+
+// Number 40: two keys of 16 bytes, then two cipher keys.
+pub fn place_bytes(wide: bool) -> usize
+    ensures { λ r. ⌜ r ≡ placeBytes wide ⌝ }
+{
+    if wide { 96 } else { 64 }
 }
 
 // A flag as the library stores it.

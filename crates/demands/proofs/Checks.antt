@@ -5,9 +5,9 @@ use mathlib.Core.Logic.{_⊎_, inl, inr}
 use mathlib.Core.Bool.{Bool, true, false, not, _&&_, _||_}
 use mathlib.Core.List.{List, [], _++_}
 use mathlib.Core.Option.{Option, none, some, Option·getD}
-use Prim.Native.Nat.{ℕ}
+use Prim.Native.Nat.{ℕ, _≤_}
 use native.Mathlib.Omega.{arith}
-use borrow.Author.Tests.{leb-false, lt-leb, ltb-false, le-ltb, eqb-true, eq-eqb, eqb-false, ne-eqb, not-true, not-false}
+use borrow.Author.Tests.{leb-true, le-leb, leb-false, lt-leb, ltb-false, le-ltb, eqb-true, eq-eqb, eqb-false, ne-eqb, not-true, not-false}
 use lib.Dec.{eqb, leb, ltb}
 use lib.ListN.{length, take}
 use Rattle.octets.specs.Maybe.{isSome}
@@ -15,7 +15,7 @@ use Rattle.octets.specs.Same.{sameBytes}
 use Rattle.octets.proofs.SameLaws.{same-self, same-equal}
 use Rattle.protocol.specs.Bytes.{Bytes}
 use Rattle.protocol.specs.Answer.{Test}
-use Rattle.protocol.specs.Connection.{usesGcm, other, Connection, knownDialect, encrypts, cipherUsed, longestMessage}
+use Rattle.protocol.specs.Connection.{isGcm, usesGcm, other, Connection, knownDialect, encrypts, cipherUsed, usesWide, cipherKeyBytes, longestMessage}
 use Rattle.protocol.specs.TransformHeader.{nonceEnd, headerOf, protocolId, inner, originalMessageSize, flagsOf, sessionIdOf}
 use Rattle.protocol.specs.SessionTable.{Session, openingKey}
 use Rattle.protocol.specs.Transform.{Primitives, plaintextUnder}
@@ -41,9 +41,6 @@ module _ (c : Connection) where
   abbrev Known : Type 0
   Known = (dialect ≡ 0x0300) ⊎ ((dialect ≡ 0x0302) ⊎ (dialect ≡ 0x0311))
 
-  abbrev Fits : Type 0
-  Fits = (cipher ≡ 1) ⊎ (cipher ≡ 2)
-
   known-says : knownDialect dialect ≡ true → Known
   known-says e = go (or-true (eqb dialect 0x0300 || eqb dialect 0x0302) (eqb dialect 0x0311) e)
     where
@@ -60,31 +57,19 @@ module _ (c : Connection) where
   says-known (inr (inl p)) = or-left _ (eqb dialect 0x0311) (or-right (eqb dialect 0x0300) _ (eq-eqb dialect 0x0302 p))
   says-known (inr (inr p)) = or-right (eqb dialect 0x0300 || eqb dialect 0x0302) _ (eq-eqb dialect 0x0311 p)
 
-  fits-says : (not (eqb dialect 0x0311) || eqb cipher 1 || eqb cipher 2) ≡ true → dialect ≡ 0x0311 → Fits
-  fits-says e d = go (or-true (not (eqb dialect 0x0311) || eqb cipher 1) (eqb cipher 2) e)
-    where
-      front : (not (eqb dialect 0x0311) ≡ true) ⊎ (eqb cipher 1 ≡ true) → Fits
-      front (inl p) = absurd (eqb-false dialect 0x0311 (not-true (eqb dialect 0x0311) p) d)
-      front (inr p) = inl (eqb-true cipher 1 p)
+  fits-says : (not (eqb dialect 0x0311) || leb cipher 4) ≡ true → dialect ≡ 0x0311 → cipher ≤ 4
+  fits-says e d = leb-true cipher 4 (rw (eq-eqb dialect 0x0311 d) at e)
 
-      go : ((not (eqb dialect 0x0311) || eqb cipher 1) ≡ true) ⊎ (eqb cipher 2 ≡ true) → Fits
-      go (inl p) = front (or-true (not (eqb dialect 0x0311)) (eqb cipher 1) p)
-      go (inr p) = inr (eqb-true cipher 2 p)
-
-  says-fits : (dialect ≡ 0x0311 → Fits) → (not (eqb dialect 0x0311) || eqb cipher 1 || eqb cipher 2) ≡ true
+  says-fits : (dialect ≡ 0x0311 → cipher ≤ 4) → (not (eqb dialect 0x0311) || leb cipher 4) ≡ true
   says-fits h = go (eqb dialect 0x0311) refl
     where
-      one-of : Fits → (eqb cipher 1 || eqb cipher 2) ≡ true
-      one-of (inl p) = or-left (eqb cipher 1) (eqb cipher 2) (eq-eqb cipher 1 p)
-      one-of (inr p) = or-right (eqb cipher 1) (eqb cipher 2) (eq-eqb cipher 2 p)
-
-      go : (b : Bool) → eqb dialect 0x0311 ≡ b → (not b || eqb cipher 1 || eqb cipher 2) ≡ true
-      go true e = one-of (h (eqb-true dialect 0x0311 e))
+      go : (b : Bool) → eqb dialect 0x0311 ≡ b → (not b || leb cipher 4) ≡ true
+      go true e = le-leb cipher 4 (h (eqb-true dialect 0x0311 e))
       go false e = refl
 
   pub encrypts-says : encrypts c ≡ true → Encrypts c
   encrypts-says e =
-      let a = and-true (knownDialect dialect && c .encryption && not (eqb cipher 0)) (not (eqb dialect 0x0311) || eqb cipher 1 || eqb cipher 2) e in
+      let a = and-true (knownDialect dialect && c .encryption && not (eqb cipher 0)) (not (eqb dialect 0x0311) || leb cipher 4) e in
       let b = and-true (knownDialect dialect && c .encryption) (not (eqb cipher 0)) (a .0) in
       let d = and-true (knownDialect dialect) (c .encryption) (b .0) in
       record {
@@ -102,8 +87,20 @@ module _ (c : Connection) where
 
 -- ---- the parts of the lists
 
-key-passes : (key : Bytes) → length key ≡ 16 → None (keyTests key)
-key-passes key l = past-line _ (ap not (eq-eqb (length key) 16 l)) no-line
+key-passes : (c : Connection) (key : Bytes) → length key ≡ cipherKeyBytes (usesWide c) → None (keyTests c key)
+key-passes c key l = past-line _ (ap not (eq-eqb (length key) (cipherKeyBytes (usesWide c)) l)) no-line
+
+-- "a GCM cipher"
+gcm-says : (cipher : ℕ) → isGcm cipher ≡ true → (cipher ≡ 2) ⊎ (cipher ≡ 4)
+gcm-says cipher e = go (or-true (eqb cipher 2) (eqb cipher 4) e)
+  where
+    go : (eqb cipher 2 ≡ true) ⊎ (eqb cipher 4 ≡ true) → (cipher ≡ 2) ⊎ (cipher ≡ 4)
+    go (inl p) = inl (eqb-true cipher 2 p)
+    go (inr p) = inr (eqb-true cipher 4 p)
+
+says-gcm : (cipher : ℕ) → (cipher ≡ 2) ⊎ (cipher ≡ 4) → isGcm cipher ≡ true
+says-gcm cipher (inl p) = or-left (eqb cipher 2) (eqb cipher 4) (eq-eqb cipher 2 p)
+says-gcm cipher (inr p) = or-right (eqb cipher 2) (eqb cipher 4) (eq-eqb cipher 4 p)
 
 -- a line that applies only where a holds
 guarded : (a b : Bool) → (a ≡ true → b ≡ true) → (a && not b) ≡ false
@@ -123,7 +120,7 @@ module _ (c : Connection) (m : Bytes) where
       (past-line _ (le-ltb longestMessage (length (inner m)) (h .short))
       (past-line _ (ap not (ap (λ (x : Bytes). sameBytes x protocolId) (h .begins) ∙ same-self protocolId))
       (past-line _ (ap not (eq-eqb (flagsOf m) 1 (h .flags)))
-      (past-line _ (guarded (usesGcm c) (eqb (nonceEnd m) 0) (λ g. eq-eqb (nonceEnd m) 0 (h .clean-nonce (eqb-true (cipherUsed c) 2 g)))) no-line)))))
+      (past-line _ (guarded (usesGcm c) (eqb (nonceEnd m) 0) (λ g. eq-eqb (nonceEnd m) 0 (h .clean-nonce (gcm-says (cipherUsed c) g)))) no-line)))))
 
   header-says : not (encrypts c) ≡ false → leb (length m) 52 ≡ false → ltb longestMessage (length (inner m)) ≡ false
       → not (sameBytes (take 4 m) protocolId) ≡ false → not (eqb (flagsOf m) 1) ≡ false
@@ -135,12 +132,14 @@ module _ (c : Connection) (m : Bytes) where
         short = ltb-false longestMessage (length (inner m)) at3;
         begins = same-equal (take 4 m) protocolId (not-false (sameBytes (take 4 m) protocolId) at4);
         flags = eqb-true (flagsOf m) 1 (not-false (eqb (flagsOf m) 1) at5);
-        clean-nonce = λ g. eqb-true (nonceEnd m) 0 (guards (usesGcm c) (eqb (nonceEnd m) 0) at29 (eq-eqb (cipherUsed c) 2 g));
+        clean-nonce = λ g. eqb-true (nonceEnd m) 0 (guards (usesGcm c) (eqb (nonceEnd m) 0) at29 (says-gcm (cipherUsed c) g));
       }
 
--- 6 to 8
-record-passes : (c : Connection) (s : Session) → s .used ≡ true → c .constrained ≡ false → (s .guest || s .anonymous) ≡ false → None (recordTests c s)
-record-passes c s known free plain = past-line _ (ap not known) (past-line _ free (past-line _ plain no-line))
+-- 6 to 8, and 35
+record-passes : (c : Connection) (s : Session) → s .used ≡ true → c .constrained ≡ false → (s .guest || s .anonymous) ≡ false
+    → cipherKeyBytes (s .wide) ≡ cipherKeyBytes (usesWide c) → None (recordTests c s)
+record-passes c s known free plain size =
+    past-line _ (ap not known) (past-line _ free (past-line _ plain (past-line _ (ap not (eq-eqb _ _ size)) no-line)))
 
 -- 9 and 10
 text-passes : (m : Bytes) (text : Option Bytes) (p : Bytes) → text ≡ some p → originalMessageSize m ≡ length (inner m) → None (textTests m text)
@@ -150,11 +149,11 @@ text-passes m text p e size =
 
 -- an opening with the table that passes every line: of any primitives
 pub open-passes : (P : Primitives) (c : Connection) (m : Bytes) (s : Session) (p : Bytes) → HeaderChecks c m
-    → s .used ≡ true → c .constrained ≡ false → (s .guest || s .anonymous) ≡ false
+    → s .used ≡ true → c .constrained ≡ false → (s .guest || s .anonymous) ≡ false → cipherKeyBytes (s .wide) ≡ cipherKeyBytes (usesWide c)
     → plaintext P c m s ≡ some p → originalMessageSize m ≡ length (inner m) → None ((openTests P c m s) .before)
 unfolding openTests
-open-passes P c m s p h known free plain e size =
-    past-part (header-passes c m h) (past-part (record-passes c s known free plain) (text-passes m (plaintext P c m s) p e size))
+open-passes P c m s p h known free plain alike e size =
+    past-part (header-passes c m h) (past-part (record-passes c s known free plain alike) (text-passes m (plaintext P c m s) p e size))
 
 -- ---- 9 and 10, for the plaintext under a key
 
@@ -195,7 +194,7 @@ module _ (c : Connection) (key : Bytes) (id : ℕ) (w : Lent) (n : ℕ) where
   under-key-says passed walked =
       let at = line underLines (none-applies underLines passed) in
       record {
-        key-fits = eqb-true (length key) 16 (not-false (eqb (length key) 16) (at 40));
+        key-fits = eqb-true (length key) (cipherKeyBytes (usesWide c)) (not-false _ (at 40));
         header = header-says c m (at 1) (at 2) (at 3) (at 4) (at 5) (at 29);
         same-id = eqb-true (sessionIdOf m) id (not-false (eqb (sessionIdOf m) id) (at 6));
         text = Option·getD under [];
@@ -206,7 +205,7 @@ module _ (c : Connection) (key : Bytes) (id : ℕ) (w : Lent) (n : ℕ) where
   pub says-under-key : OpensUnderKey c key id m n → None underLines
   unfolding tests
   says-under-key o =
-      past-part (key-passes key (o .key-fits))
+      past-part (key-passes c key (o .key-fits))
       (past-part (header-passes c m (o .header))
       (past-line _ (ap not (eq-eqb (sessionIdOf m) id (o .same-id)))
       (text-passes m under (o .text) (carried-text (cipherUsed c) key m (o .text) (o .carried)) (o .carried .size))))
@@ -228,6 +227,7 @@ module _ (c : Connection) (m : Bytes) (s : Session) (n : ℕ) where
         unconstrained = at 7;
         not-guest = g .0;
         not-anonymous = g .1;
+        same-size = eqb-true (cipherKeyBytes (s .wide)) (cipherKeyBytes (usesWide c)) (not-false _ (at 35));
         text = Option·getD (plaintext suite c m s) [];
         carried = carried-says (cipherUsed c) (openingKey (c .role) (s .keys)) m (at 9) (at 10);
         walked = walked;
@@ -239,4 +239,4 @@ module _ (c : Connection) (m : Bytes) (s : Session) (n : ℕ) where
   pub says-record : OpensWithRecord c m s n → None recordLines
   says-record o =
       let plain = neither (s .guest) (s .anonymous) (o .not-guest) (o .not-anonymous) in
-      open-passes suite c m s (o .text) (o .header) (o .known) (o .unconstrained) plain (record-text o) (o .carried .size)
+      open-passes suite c m s (o .text) (o .header) (o .known) (o .unconstrained) plain (o .same-size) (record-text o) (o .carried .size)

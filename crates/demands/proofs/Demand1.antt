@@ -22,7 +22,7 @@ use Rattle.demands.proofs.CallLaws.{left-done, left-refused}
 module _ (P : Primitives) where
   orders : (c : Call) (w : Lent) → numbersTested (tests P c w) ≡ order c
   unfolding tests sealTests openTests
-  orders (derivation dialect chain material) w = refl
+  orders (derivation dialect cipher chain material) w = refl
   orders (folding kind m) w = refl
   orders (foldBeginning v) w = refl
   orders (foldPiece p) w = refl

@@ -11,10 +11,11 @@ use lib.Dec.{lit≤}
 use lib.ListN.{take}
 use Rattle.protocol.specs.Bytes.{Bytes}
 use Rattle.protocol.specs.Answer.{done}
-use Rattle.protocol.specs.Connection.{Connection, cipherUsed}
-use Rattle.protocol.specs.Keys.{keys311, keys300, derivedKeys}
+use Rattle.protocol.specs.Connection.{Connection, cipherUsed, isWide}
+use Rattle.protocol.specs.Keys.{sessionKey, cipherMaterial, smbSigningKey, smbAppKey, smbC2SCipherKey, smbS2CCipherKey, smb2AesCmac, smb2App, smb2AesCcm}
+use Rattle.protocol.specs.Keys.{smbSign, smbRpc, serverIn, serverOut, keys311, keys300, derivedKeys}
 use Rattle.protocol.specs.Preauth.{FoldKind, statusAllows}
-use Rattle.protocol.specs.Ciphers.{cipherOf}
+use Rattle.protocol.specs.Ciphers.{aesCcm, aesGcm, cipherOf}
 use Rattle.protocol.specs.Transform.{plaintextUnder}
 use Rattle.protocol.specs.Calls.{derivation, folding, sealingUnder, openingUnder, signingUnder, adding, sealing, opening}
 use Rattle.protocol.specs.Calls.{Lent, withMessage, withChain, openTests, tests, effect, answer, left}
@@ -32,20 +33,39 @@ use Rattle.demands.proofs.Checks.{carried-text, under-key-says, says-un
 
 -- ---- keys
 
-kdf-is : kdf ≡ keyFrom
-kdf-is = λ i key label context. kdf-of-document key label context i
+of-311 : (wide : Bool) (chain material : Bytes) → keys311 kdf wide chain material ≡ keys311 keyFrom wide chain material
+of-311 wide chain material =
+    let key = sessionKey material in
+    let cipher-key = cipherMaterial wide material in
+    λ i.
+    record {
+      signing = kdf-of-document false key smbSigningKey chain i;
+      application = kdf-of-document false key smbAppKey chain i;
+      clientToServer = kdf-of-document wide cipher-key smbC2SCipherKey chain i;
+      serverToClient = kdf-of-document wide cipher-key smbS2CCipherKey chain i;
+    }
+
+of-300 : (material : Bytes) → keys300 kdf material ≡ keys300 keyFrom material
+of-300 material =
+    let key = sessionKey material in
+    λ i.
+    record {
+      signing = kdf-of-document false key smb2AesCmac smbSign i;
+      application = kdf-of-document false key smb2App smbRpc i;
+      clientToServer = kdf-of-document false key smb2AesCcm serverIn i;
+      serverToClient = kdf-of-document false key smb2AesCcm serverOut i;
+    }
 
 keys-of-papers : KeysOfPapers
 unfolding derivedKeys effect
 keys-of-papers =
     record {
       session-key = λ material. padded-then-cut 16 16 material (lit≤ tt);
-      keys-311 = λ chain key. ap (λ (f : Bytes → Bytes → Bytes → Bytes). keys311 f chain key) kdf-is;
+      keys-311 = λ cipher chain material. of-311 (isWide 0x0311 cipher) chain material;
       keys-300 =
-          λ dialect chain key h.
-          ap (λ (b : Bool). cond b (keys311 kdf chain key) (keys300 kdf key)) (ne-eqb dialect 0x0311 h)
-          ∙ ap (λ (f : Bytes → Bytes → Bytes → Bytes). keys300 f key) kdf-is;
-      written = λ dialect chain material. left-done suite (derivation dialect chain material);
+          λ dialect cipher chain material h.
+          ap (λ (b : Bool). cond b (keys311 kdf (isWide dialect cipher) chain material) (keys300 kdf material)) (ne-eqb dialect 0x0311 h) ∙ of-300 material;
+      written = λ dialect cipher chain material. left-done suite (derivation dialect cipher chain material);
       added = λ a. left-done suite (adding a);
     }
 
@@ -70,7 +90,13 @@ chain-of-papers = record { folded = λ kind m w e. folded-in kind m w e ∙ ap (
 
 ciphers-of-papers : (key nonce auth text : Bytes) → CiphersOfPapers key nonce auth text
 unfolding suite cipherOf
-ciphers-of-papers key nonce auth text = record { ccm-ciphertext = refl; ccm-tag = refl; gcm-ciphertext = refl; gcm-tag = refl }
+ciphers-of-papers key nonce auth text =
+    record {
+      ccm-ciphertext = λ cipher e. ap (λ (b : Bool). (cond b aesGcm aesCcm) .encrypt key nonce auth text) e;
+      ccm-tag = λ cipher e. ap (λ (b : Bool). (cond b aesGcm aesCcm) .tag key nonce auth text) e;
+      gcm-ciphertext = λ cipher e. ap (λ (b : Bool). (cond b aesGcm aesCcm) .encrypt key nonce auth text) e;
+      gcm-tag = λ cipher e. ap (λ (b : Bool). (cond b aesGcm aesCcm) .tag key nonce auth text) e;
+    }
 
 sealed-of-papers : SealedOfPapers
 unfolding effect

@@ -4,15 +4,15 @@ use mathlib.Core.Path.{_≡_, refl, sym, ap, _∙_}
 use mathlib.Core.Bool.{true, _||_}
 use Prim.Native.Nat.{ℕ}
 use Rattle.protocol.specs.Bytes.{Bytes}
-use Rattle.protocol.specs.Connection.{Role, client, server, other, encrypts}
-use Rattle.protocol.specs.Keys.{derivedKeys}
+use Rattle.protocol.specs.Connection.{Role, client, server, other, isWide, cipherKeyBytes, encrypts}
+use Rattle.protocol.specs.Keys.{smbC2SCipherKey, smbS2CCipherKey, derivedKeys}
 use Rattle.protocol.specs.SessionTable.{Session, sealingKey, recordOf, newRecord}
 use Rattle.protocol.specs.Transform.{Primitives}
 use Rattle.protocol.specs.Calls.{onlyTable}
 use Rattle.protocol.specs.Sound.{Sound}
 use Rattle.protocol.specs.Suite.{suite}
 use Rattle.protocol.proofs.SuiteLaws.{suite-sound}
-use Rattle.demands.specs.Chains.{Among}
+use Rattle.demands.specs.Chains.{sessionChain, Among}
 use Rattle.demands.specs.Steps.{Step}
 use Rattle.demands.specs.Demand3.{Ends, endConnection, sessionAdded, madeAt, Premises, Seals, by-call, Opens, Demand3}
 use Rattle.demands.proofs.FoldLaws.{chains-agree, same-value}
@@ -32,16 +32,22 @@ module _ (P : Primitives) (sound : Sound P) (e : Ends) (h : Premises P e) where
   abbrev record-at : Role → Session
   record-at r = newRecord (P .kdf) (sessionAdded P e r)
 
-  -- both ends hold the same keys
-  keys-alike : (record-at client) .keys ≡ (record-at server) .keys
-  keys-alike =
-      let ordered = h .in-order in
-      let chain = same-value P (sound .hash-length) (e .chainSteps client) (e .chainSteps server) (ordered client) (ordered server) (h .same-messages) in
-      λ i. derivedKeys (P .kdf) 0x0311 (chain i) (h .same-key i)
+  same-chain : sessionChain P (e .chainSteps client) ≡ sessionChain P (e .chainSteps server)
+  same-chain =
+      same-value P (sound .hash-length) (e .chainSteps client) (e .chainSteps server) (h .in-order client) (h .in-order server) (h .same-messages)
 
-  same-keys : (r : Role) → (record-at (other r)) .keys ≡ (record-at r) .keys
-  same-keys client = sym keys-alike
-  same-keys server = keys-alike
+  abbrev bytes : ℕ
+  bytes = cipherKeyBytes (isWide 0x0311 (e .cipher))
+
+  -- both ends hold the same cipher keys
+  cipher-keys : (q : Role) → sealingKey q ((record-at client) .keys) ≡ sealingKey q ((record-at server) .keys)
+  unfolding derivedKeys
+  cipher-keys client = λ i. P .kdf bytes (h .same-key i) smbC2SCipherKey (same-chain i)
+  cipher-keys server = λ i. P .kdf bytes (h .same-key i) smbS2CCipherKey (same-chain i)
+
+  same-keys : (r q : Role) → sealingKey q ((record-at (other r)) .keys) ≡ sealingKey q ((record-at r) .keys)
+  same-keys client q = sym (cipher-keys q)
+  same-keys server q = cipher-keys q
 
   -- whatever table a step at the end r gets, the session's record there is the one added, but for its counter
   kept-at : (r : Role) (x : Step) → Among x (madeAt P e r) → held (recordOf (e .id) (x .lent .table)) ≡ held (record-at r)
@@ -68,9 +74,10 @@ module _ (P : Primitives) (sound : Sound P) (e : Ends) (h : Premises P e) where
       opens P sound d r key (e .id) m w n (other-other r) (h .id-fits) (rw (lent .copied) (sealed-as r m sealed n s)) (encrypting r m sealed n s) refl
       (ap (λ (x : Held). x .used) k)
       (ap (λ (x : Held). x .guest || x .anonymous) k)
+      (ap (λ (x : Held). cipherKeyBytes (x .wide)) k)
       (ap (λ (q : Role). sealingKey q ((recordOf (e .id) (w .table)) .keys)) (other-other r)
       ∙ sealing-key r (recordOf (e .id) (w .table)) (record-at (other r)) k
-      ∙ ap (sealingKey r) (same-keys r))
+      ∙ same-keys r r)
 
 pub holds-of : (P : Primitives) → Sound P → Demand3 P
 holds-of P sound = record { chains = chains-agree P (sound .hash-length); sessions = opens-all P sound }

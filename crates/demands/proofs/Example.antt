@@ -150,7 +150,7 @@ abbrev idle : Primitives
 idle =
     record {
       sha512 = λ s. replicate 64 7;
-      kdf = λ k label context. replicate 16 0;
+      kdf = λ n k label context. replicate n 0;
       cmac = λ k m. replicate 16 0;
       ciphers = record { encrypt = λ c k n a p. p; tag = λ c k n a p. replicate 16 0; decrypt = λ c k n a t b. some b };
     }

@@ -105,7 +105,7 @@ module _ (P : Primitives) where
   called s (foldBeginning v) l = leaves s _ refl refl
   called s (foldPiece p) l = leaves s _ refl refl
   called s (foldFinishing kind) l = none refl (finish-left (s .value) kind notBegun l (λ e. absurd (true≢false (sym e))))
-  called s (derivation dialect chain material) l = leaves s _ refl refl
+  called s (derivation dialect cipher chain material) l = leaves s _ refl refl
   called s (sealingUnder c key id) l = leaves s _ refl refl
   called s (openingUnder c key id) l = leaves s _ refl refl
   called s (signingUnder key) l = leaves s _ refl refl

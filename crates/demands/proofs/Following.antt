@@ -31,6 +31,7 @@ pub record Held : Type 0 where
   pub id : ℕ
   pub guest : Bool
   pub anonymous : Bool
+  pub wide : Bool
   pub clientToServer : Bytes
   pub serverToClient : Bytes
 
@@ -41,6 +42,7 @@ held s =
       id = s .id;
       guest = s .guest;
       anonymous = s .anonymous;
+      wide = s .wide;
       clientToServer = s .keys .clientToServer;
       serverToClient = s .keys .serverToClient;
     }
@@ -162,7 +164,7 @@ module _ (P : Primitives) where
     -- one clause for one call
     pub follows : (c : Call) (w : Lent) → c ≢ removing i → Present i (w .table) → Kept c w
     unfolding effect
-    follows (derivation dialect chain material) w h k = alone _ w refl
+    follows (derivation dialect cipher chain material) w h k = alone _ w refl
     follows (folding kind m) w h k = alone _ w refl
     follows (foldBeginning v) w h k = alone _ w refl
     follows (foldPiece p) w h k = alone _ w refl

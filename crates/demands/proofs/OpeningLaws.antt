@@ -11,7 +11,7 @@ use lib.Seq.{drop-at, length-take-le}
 use borrow.Author.Tests.{leb-false, ltb-false, not-false}
 use Rattle.protocol.specs.Bytes.{Bytes}
 use Rattle.protocol.specs.Answer.{done}
-use Rattle.protocol.specs.Connection.{Role, other, Connection, encrypts, cipherUsed, longestMessage}
+use Rattle.protocol.specs.Connection.{Role, other, Connection, encrypts, cipherUsed, usesWide, cipherKeyBytes, longestMessage}
 use Rattle.protocol.specs.TransformHeader.{nonceOf, authenticated, inner, originalMessageSize, sessionIdOf, signatureOf, nonceField, authenticatedOf}
 use Rattle.protocol.specs.SessionTable.{Session, sealingKey, openingKey, recordOf}
 use Rattle.protocol.specs.Transform.{Primitives, sealedUnder, plaintextUnder, openedTo}
@@ -137,10 +137,10 @@ finds P sound d sender key id m b s n fits says on opening-key = rw (says .bytes
 pub opens : (P : Primitives) (sound : Sound P) (d : Connection) (sender : Role) (key : Bytes) (id : ℕ) (m : Bytes) (w : Lent) (n : ℕ)
     → other (d .role) ≡ sender → id < 2 ^ 64 → SealedAs P sender (cipherUsed d) key id m (w .message) n → encrypts d ≡ true → d .constrained ≡ false
     → let s = recordOf id (w .table) in
-    s .used ≡ true → (s .guest || s .anonymous) ≡ false → openingKey (d .role) (s .keys) ≡ key
+    s .used ≡ true → (s .guest || s .anonymous) ≡ false → cipherKeyBytes (s .wide) ≡ cipherKeyBytes (usesWide d) → openingKey (d .role) (s .keys) ≡ key
     → (answer P (opening d) w ≡ done n) × (inner ((left P (opening d) w) .message) ≡ inner m)
 unfolding tests openTests effect
-opens P sound d sender key id m w n from fits says on free known plain opening-key =
+opens P sound d sender key id m w n from fits says on free known plain alike opening-key =
     (answered, ap (λ (x : Lent). inner (x .message)) (left-done P (opening d) w n answered) ∙ opened-inner b (inner m) _ text (f .checks .long))
   where
     b : Bytes
@@ -160,7 +160,7 @@ opens P sound d sender key id m w n from fits says on free known plain opening-k
     text = ap (plaintext P d b) taken ∙ f .text
 
     passed : None ((openTests P d b (recordOf (sessionIdOf b) (w .table))) .before)
-    passed = rw taken (open-passes P d b s (inner m) (f .checks) known free plain (f .text) (f .size))
+    passed = rw taken (open-passes P d b s (inner m) (f .checks) known free plain alike (f .text) (f .size))
 
     visited : Walked (Option·getD (plaintext P d b (recordOf (sessionIdOf b) (w .table))) []) (sentBy (other (d .role)) (sessionIdOf b)) n
     visited = rw (text, f .named, from) (says .walked)

@@ -18,7 +18,7 @@ use Rattle.cmac.specs.Cmac as rfc4493
 use Rattle.protocol.specs.Bytes.{Bytes, numberAt}
 use Rattle.protocol.specs.Answer.{done}
 use Rattle.protocol.specs.Connection.{longestMessage}
-use Rattle.protocol.specs.Ciphers.{aes128}
+use Rattle.protocol.specs.Ciphers.{aes}
 use Rattle.protocol.specs.InnerHeader.{isInnerHeader}
 use Rattle.protocol.specs.Signing.{isSigned, withSignedFlag, withSignature, signatureUnder, signedUnder}
 use Rattle.protocol.specs.Calls.{signingUnder, verifyingUnder, Lent, verdict, lines, signTests, verifyTests, tests, effect, answer, left}
@@ -63,7 +63,7 @@ module _ (key m : Bytes) where
       checks-of (at 40) (at 3) (at 11) (at 12)
 
   -- 25: the signature that the message should have, in full
-  signature-is : signatureUnder cmac key m ≡ rfc4493.cmac (aes128 key) (take 48 m ++ (replicate 16 0 ++ drop 64 m))
+  signature-is : signatureUnder cmac key m ≡ rfc4493.cmac (aes key) (take 48 m ++ (replicate 16 0 ++ drop 64 m))
   unfolding signatureUnder withSignature
   signature-is = cmac-is key (take 48 m ++ (replicate 16 0 ++ drop 64 m))
 

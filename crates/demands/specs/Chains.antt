@@ -61,7 +61,7 @@ foldedInBy (foldBeginning v) = []
 foldedInBy (foldPiece p) = []
 -- it is handed no message
 foldedInBy (foldFinishing kind) = []
-foldedInBy (derivation dialect chain material) = []
+foldedInBy (derivation dialect cipher chain material) = []
 foldedInBy (sealingUnder c key id) = []
 foldedInBy (openingUnder c key id) = []
 foldedInBy (signingUnder key) = []

@@ -5,6 +5,7 @@
 -- Assumes nothing.
 use mathlib.Core.Path.{_≡_}
 use mathlib.Core.Logic.{_≢_, _↔_}
+use mathlib.Core.Bool.{true, false}
 use mathlib.Core.List.{_++_}
 use Prim.Native.Nat.{ℕ, _+_}
 use lib.ListN.{take, replicate}
@@ -17,13 +18,13 @@ use Rattle.gcm.specs.Gcm as gcm
 use Rattle.cmac.specs.Cmac as rfc4493
 use Rattle.protocol.specs.Bytes.{Bytes}
 use Rattle.protocol.specs.Answer.{done}
-use Rattle.protocol.specs.Connection.{Connection, cipherUsed}
+use Rattle.protocol.specs.Connection.{Connection, cipherUsed, isGcm, isWide}
 use Rattle.protocol.specs.TransformHeader.{inner, sessionIdOf}
 use Rattle.protocol.specs.Keys.{sessionKey, derivationInput, derivedKeys, keys311, keys300, keysInOrder}
 use Rattle.protocol.specs.Preauth.{FoldKind}
 use Rattle.protocol.specs.Signing.{signedUnder}
 use Rattle.protocol.specs.SessionTable.{Session, sealingKey, recordOf, changeRecord, countUp, Adding, newRecord, fillFree}
-use Rattle.protocol.specs.Ciphers.{aes128}
+use Rattle.protocol.specs.Ciphers.{aes}
 use Rattle.protocol.specs.Transform.{sealedUnder}
 use Rattle.protocol.specs.Calls.{derivation, folding, sealingUnder, openingUnder, signingUnder, verifyingUnder, adding, sealing, opening}
 use Rattle.protocol.specs.Calls.{Lent, withMessage, withTable, withChain, withKeys, withCounter, answer, left}
@@ -33,19 +34,19 @@ use Rattle.demands.specs.Verifying.{SignChecks, Verifies}
 
 -- ---- keys
 
--- "Each key is the first 16 bytes of HMAC-SHA-256, keyed with it, over" what `derivationInput` makes of label and context
-abbrev pub keyFrom : Bytes → Bytes → Bytes → Bytes
-keyFrom key label context = take 16 (hmac sha256 key (derivationInput label context))
+-- "Each key is the first 16 bytes of HMAC-SHA-256, keyed with it, over" what `derivationInput` makes of label and context; or the first 32
+abbrev pub keyFrom : ℕ → Bytes → Bytes → Bytes → Bytes
+keyFrom bytes key label context = take bytes (hmac sha256 key (derivationInput bytes label context))
 
 pub record KeysOfPapers : Type 0 where
   -- "first 16 bytes of the material given, padded right with zeros"
   pub session-key : (material : Bytes) → sessionKey material ≡ take 16 (material ++ replicate 16 0)
   -- the table's labels and contexts of 3.1.1, and those of 3.0 and 3.0.2
-  pub keys-311 : (chain key : Bytes) → derivedKeys kdf 0x0311 chain key ≡ keys311 keyFrom chain key
-  pub keys-300 : (dialect : ℕ) (chain key : Bytes) → dialect ≢ 0x0311 → derivedKeys kdf dialect chain key ≡ keys300 keyFrom key
+  pub keys-311 : (cipher : ℕ) (chain material : Bytes) → derivedKeys kdf 0x0311 cipher chain material ≡ keys311 keyFrom (isWide 0x0311 cipher) chain material
+  pub keys-300 : (dialect cipher : ℕ) (chain material : Bytes) → dialect ≢ 0x0311 → derivedKeys kdf dialect cipher chain material ≡ keys300 keyFrom material
   -- "writes the four keys in the order of the table"
-  pub written : (dialect : ℕ) (chain material : Bytes) (w : Lent) (n : ℕ) → answer suite (derivation dialect chain material) w ≡ done n
-      → left suite (derivation dialect chain material) w ≡ withKeys (keysInOrder (derivedKeys kdf dialect chain (sessionKey material))) w
+  pub written : (dialect cipher : ℕ) (chain material : Bytes) (w : Lent) (n : ℕ) → answer suite (derivation dialect cipher chain material) w ≡ done n
+      → left suite (derivation dialect cipher chain material) w ≡ withKeys (keysInOrder (derivedKeys kdf dialect cipher chain material)) w
   -- adding puts the record with these keys into the first free place
   pub added : (a : Adding) (w : Lent) (n : ℕ) → answer suite (adding a) w ≡ done n
       → left suite (adding a) w ≡ withTable (fillFree (newRecord kdf a) (w .table)) w
@@ -57,13 +58,14 @@ pub record ChainOfPapers : Type 0 where
   pub folded : (kind : FoldKind) (m : Bytes) (w : Lent) → answer suite (folding kind m) w ≡ done 1
       → left suite (folding kind m) w ≡ withChain (hash sha2.sha512 (w .chain ++ m)) w
 
--- ---- the ciphers: "11 nonce bytes", "12 nonce bytes" of the header's Nonce
+-- ---- the ciphers, 2 and 4 or else 1 and 3, whatever the size of the key: "11 nonce bytes", "12 nonce bytes" of the header's Nonce
 
 pub record CiphersOfPapers (key nonce auth text : Bytes) : Type 0 where
-  pub ccm-ciphertext : ciphers .encrypt 1 key nonce auth text ≡ ccm.encrypt (aes128 key) (take 11 nonce) text
-  pub ccm-tag : ciphers .tag 1 key nonce auth text ≡ ccm.tag (aes128 key) (take 11 nonce) auth text
-  pub gcm-ciphertext : ciphers .encrypt 2 key nonce auth text ≡ gcm.encrypt (aes128 key) (take 12 nonce) text
-  pub gcm-tag : ciphers .tag 2 key nonce auth text ≡ gcm.tag (aes128 key) (take 12 nonce) auth (gcm.encrypt (aes128 key) (take 12 nonce) text)
+  pub ccm-ciphertext : (cipher : ℕ) → isGcm cipher ≡ false → ciphers .encrypt cipher key nonce auth text ≡ ccm.encrypt (aes key) (take 11 nonce) text
+  pub ccm-tag : (cipher : ℕ) → isGcm cipher ≡ false → ciphers .tag cipher key nonce auth text ≡ ccm.tag (aes key) (take 11 nonce) auth text
+  pub gcm-ciphertext : (cipher : ℕ) → isGcm cipher ≡ true → ciphers .encrypt cipher key nonce auth text ≡ gcm.encrypt (aes key) (take 12 nonce) text
+  pub gcm-tag : (cipher : ℕ) → isGcm cipher ≡ true
+      → ciphers .tag cipher key nonce auth text ≡ gcm.tag (aes key) (take 12 nonce) auth (gcm.encrypt (aes key) (take 12 nonce) text)
 
 -- ---- sealed bytes, with these ciphers
 
@@ -104,7 +106,7 @@ pub record OpenedOfPapers : Type 0 where
 -- ---- signed bytes, and verifying
 
 pub record SignedOfPapers : Type 0 where
-  pub aes-cmac : (key m : Bytes) → cmac key m ≡ rfc4493.cmac (aes128 key) m
+  pub aes-cmac : (key m : Bytes) → cmac key m ≡ rfc4493.cmac (aes key) m
   -- a message is signed exactly if every listed check holds
   pub signs : (key : Bytes) (w : Lent) (n : ℕ) → (answer suite (signingUnder key) w ≡ done n) ↔ (SignChecks key (w .message) × (n ≡ 0))
   -- "set flag 0x00000008, zero bytes 48..64 of the header, sign the whole message, store the 16 bytes there"

@@ -8,9 +8,9 @@ use mathlib.Core.List.{List}
 use Prim.Native.Nat.{ℕ, _<_, _^_}
 use Rattle.protocol.specs.Bytes.{Bytes}
 use Rattle.protocol.specs.Answer.{done}
-use Rattle.protocol.specs.Connection.{Role, client, server, other, Connection}
+use Rattle.protocol.specs.Connection.{Role, client, server, other, Connection, isWide}
 use Rattle.protocol.specs.TransformHeader.{inner}
-use Rattle.protocol.specs.Keys.{sessionKey}
+use Rattle.protocol.specs.Keys.{cipherMaterial}
 use Rattle.protocol.specs.SessionTable.{Session, Adding}
 use Rattle.protocol.specs.Transform.{Primitives}
 use Rattle.protocol.specs.Calls.{Call, adding, removing, sealing, opening, Lent, onlyTable, answer, left}
@@ -41,11 +41,12 @@ abbrev pub endOpens : Ends → Role → Call
 endOpens e r = opening (endConnection e r)
 
 module _ (P : Primitives) where
-  -- what an end adds the session with: its chain value; 3.1.1, neither as guest nor anonymous
+  -- what an end adds the session with: its chain value; 3.1.1, "for the cipher they use", neither as guest nor anonymous
   abbrev pub sessionAdded : Ends → Role → Adding
   sessionAdded e r =
       record {
         dialect = 0x0311;
+        cipher = e .cipher;
         chain = sessionChain P (e .chainSteps r);
         id = e .id;
         material = e .material r;
@@ -65,8 +66,8 @@ module _ (P : Primitives) where
     pub in-order : (r : Role) → EndInOrder P (e .chainSteps r)
     -- "let the messages folded in be the same"
     pub same-messages : endMessages P (e .chainSteps client) ≡ endMessages P (e .chainSteps server)
-    -- "the same session key"
-    pub same-key : sessionKey (e .material client) ≡ sessionKey (e .material server)
+    -- "the same session key", which "now reads 'the same full key material' for these ciphers"
+    pub same-key : let wide = isWide 0x0311 (e .cipher) in cipherMaterial wide (e .material client) ≡ cipherMaterial wide (e .material server)
     -- an id has 64 bits
     pub id-fits : e .id < 2 ^ 64
     pub added-with-success : (r : Role) → answer P (adding (sessionAdded e r)) (onlyTable (e .tableBefore r)) ≡ done 0

@@ -8,7 +8,7 @@ use mathlib.Core.List.{[], _∷_}
 use Prim.Native.Nat.{ℕ, _≤_, _<_}
 use lib.ListN.{length, take}
 use Rattle.protocol.specs.Bytes.{Bytes}
-use Rattle.protocol.specs.Connection.{other, Connection, cipherUsed, longestMessage}
+use Rattle.protocol.specs.Connection.{other, Connection, cipherUsed, usesWide, cipherKeyBytes, longestMessage}
 use Rattle.protocol.specs.TransformHeader.{nonceEnd, inner, signatureOf, nonceField, authenticatedOf, originalMessageSize, flagsOf, sessionIdOf}
 use Rattle.protocol.specs.SessionTable.{Session, openingKey}
 use Rattle.protocol.specs.Calls.{sentBy}
@@ -20,7 +20,7 @@ pub record Encrypts (c : Connection) : Type 0 where
   pub dialect-known : (c .dialect ≡ 0x0300) ⊎ ((c .dialect ≡ 0x0302) ⊎ (c .dialect ≡ 0x0311))
   pub on : c .encryption ≡ true
   pub some-cipher : c .cipher ≢ 0
-  pub cipher-known : c .dialect ≡ 0x0311 → (c .cipher ≡ 1) ⊎ (c .cipher ≡ 2)
+  pub cipher-known : c .dialect ≡ 0x0311 → c .cipher ≤ 4
 
 pub record HeaderChecks (c : Connection) (m : Bytes) : Type 0 where
   -- not 1
@@ -34,7 +34,7 @@ pub record HeaderChecks (c : Connection) (m : Bytes) : Type 0 where
   -- not 5
   pub flags : flagsOf m ≡ 1
   -- not 29: bytes 32..36 under GCM
-  pub clean-nonce : cipherUsed c ≡ 2 → nonceEnd m ≡ 0
+  pub clean-nonce : (cipherUsed c ≡ 2) ⊎ (cipherUsed c ≡ 4) → nonceEnd m ≡ 0
 
 -- the message carries the text: the authenticated data are its bytes 20..52, the tag its bytes 4..20
 pub record Carries (cipher : ℕ) (key m text : Bytes) : Type 0 where
@@ -47,7 +47,7 @@ pub record Carries (cipher : ℕ) (key m text : Bytes) : Type 0 where
 -- under one given key: the message m opens to the text, with n inner headers
 pub record OpensUnderKey (c : Connection) (key : Bytes) (id : ℕ) (m : Bytes) (n : ℕ) : Type 0 where
   -- not 40
-  pub key-fits : length key ≡ 16
+  pub key-fits : length key ≡ cipherKeyBytes (usesWide c)
   -- not 1 to 5
   pub header : HeaderChecks c m
   -- not 6
@@ -69,6 +69,8 @@ pub record OpensWithRecord (c : Connection) (m : Bytes) (s : Session) (n : ℕ) 
   -- not 8
   pub not-guest : s .guest ≡ false
   pub not-anonymous : s .anonymous ≡ false
+  -- not 35
+  pub same-size : cipherKeyBytes (s .wide) ≡ cipherKeyBytes (usesWide c)
   pub text : Bytes
   -- not 9, 10
   pub carried : Carries (cipherUsed c) (openingKey (c .role) (s .keys)) m text

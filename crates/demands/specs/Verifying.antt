@@ -9,7 +9,7 @@ use Rattle.octets.specs.Numbers.{bytesAt}
 use Rattle.cmac.specs.Cmac.{cmac}
 use Rattle.protocol.specs.Bytes.{Bytes, numberAt}
 use Rattle.protocol.specs.Connection.{longestMessage}
-use Rattle.protocol.specs.Ciphers.{aes128}
+use Rattle.protocol.specs.Ciphers.{aes}
 
 pub record SignChecks (key m : Bytes) : Type 0 where
   -- not 40
@@ -27,4 +27,4 @@ pub record Verifies (key m : Bytes) : Type 0 where
   -- not 24
   pub flag : numberAt 16 4 m / 8 % 2 ≡ 1
   -- not 25
-  pub signature : bytesAt 48 16 m ≡ cmac (aes128 key) (take 48 m ++ (replicate 16 0 ++ drop 64 m))
+  pub signature : bytesAt 48 16 m ≡ cmac (aes key) (take 48 m ++ (replicate 16 0 ++ drop 64 m))

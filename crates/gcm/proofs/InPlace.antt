@@ -1,7 +1,7 @@
 -- What the contracts of sealing and opening follow from.
 -- Assumes nothing.
 use mathlib.Core.Path.{_≡_, ap, _∙_}
-use mathlib.Core.Bool.{true, false}
+use mathlib.Core.Bool.{Bool, true, false}
 use mathlib.Core.List.{List}
 use Prim.Native.Nat.{ℕ}
 use Rattle.octets.specs.Same.{sameBytes}
@@ -25,3 +25,11 @@ module _ (E : List ℕ → List ℕ) (nonce aad t body u : List ℕ) (eu : u ≡
   opened-wrong s =
       let q : sameBytes t (tag E nonce aad body) ≡ false = rw (← eu) s in
       record { right = rw q; bytes = rw q }
+
+-- the same cipher by another name
+pub sealed-under : {E F : List ℕ → List ℕ} {nonce aad text text′ t : List ℕ} → E ≡ F → Sealed E nonce aad text text′ t → Sealed F nonce aad text text′ t
+sealed-under e s = rw e at s
+
+pub opened-under : {E F : List ℕ → List ℕ} {nonce aad t body body′ : List ℕ} {r : Bool} → E ≡ F → Opened E nonce aad t body body′ r
+    → Opened F nonce aad t body body′ r
+opened-under e s = rw e at s

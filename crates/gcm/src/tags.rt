@@ -4,18 +4,18 @@ ghost use Prim.Native.Nat.{ℕ, _<_};
 ghost use lib.ListN.{length};
 ghost use Rattle.aes.specs.Tables.{SubMixTable};
 ghost use Rattle.octets.specs.Numbers.{toBigEndian};
-ghost use Rattle.aes.specs.BlockCipher.{blockCipher};
+ghost use Rattle.aes.specs.Cipher.{cipher};
 ghost use Rattle.ghash.specs.Ghash.{ghash};
 ghost use Rattle.ghash.specs.Elements.{Prepared};
 ghost use Rattle.gcm.specs.Gcm.{hashSubkey, hashInput, tag};
 ghost use Rattle.gcm.specs.Contracts.{longest};
 
 // Step 1: H, ready for GHASH.
-fn hash_subkey(t: &[u32; 256], keys: [[u8; 16]; 11]) -> ghash::HashKey
-    requires { ⌜ SubMixTable (now t) ⌝ }
-    ensures { λ r. ⌜ Prepared r (hashSubkey (blockCipher keys)) ⌝ }
+fn hash_subkey(t: &[u32; 256], keys: [[u8; 16]; 15], rounds: usize) -> ghash::HashKey
+    requires { ⌜ SubMixTable (now t) × (0 < rounds) × (rounds < 15) ⌝ }
+    ensures { λ r. ⌜ Prepared r (hashSubkey (cipher rounds keys)) ⌝ }
 {
-    ghash::prepare(aes::encrypt_block(t, keys, [0u8; 16]))
+    ghash::prepare(aes::encrypt_block(t, keys, rounds, [0u8; 16]))
 }
 
 // Step 5: S. The lengths are in bits.
@@ -32,17 +32,18 @@ fn hash(k: ghash::HashKey, aad: &[u8], body: &[u8]) -> [u8; 16]
 // The tag of the ciphertext `body`.
 pub fn tag_with(
     t: &[u32; 256],
-    keys: [[u8; 16]; 11],
+    keys: [[u8; 16]; 15],
+    rounds: usize,
     nonce: [u8; 12],
     aad: &[u8],
     body: &[u8],
 ) -> [u8; 16]
-    requires { ⌜ SubMixTable (now t) × (length (now aad) < longest) × (length (now body) < longest) ⌝ }
-    ensures { λ r. ⌜ r ≡ tag (blockCipher keys) nonce (now (aad .entry)) (now (body .entry)) ⌝ }
+    requires { ⌜ SubMixTable (now t) × (0 < rounds) × (rounds < 15) × (length (now aad) < longest) × (length (now body) < longest) ⌝ }
+    ensures { λ r. ⌜ r ≡ tag (cipher rounds keys) nonce (now (aad .entry)) (now (body .entry)) ⌝ }
 {
-    let k = hash_subkey(t, keys);
+    let k = hash_subkey(t, keys, rounds);
     let s = hash(k, aad, body);
     // J₀ is the nonce and the number 1 (steps 2 and 6).
-    let e = aes::encrypt_counter(t, keys, nonce, 1);
+    let e = aes::encrypt_counter(t, keys, rounds, nonce, 1);
     runs::xor_16(s, e)
 }

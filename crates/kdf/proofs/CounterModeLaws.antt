@@ -1,8 +1,8 @@
--- Counter mode with HMAC-SHA-256: K(1) out of its pieces, and a key of 16 bytes, which is half of K(1).
+-- Counter mode with HMAC-SHA-256: K(1) out of its pieces, and a key of at most 32 bytes, which is the beginning of K(1).
 -- Assumes nothing.
-use mathlib.Core.Path.{_≡_, refl, ap, ap₂, _∙_}
+use mathlib.Core.Path.{_≡_, ap, ap₂, _∙_}
 use mathlib.Core.List.{List, [], _∷_, _++_, append-assoc}
-use Prim.Native.Nat.{ℕ}
+use Prim.Native.Nat.{ℕ, _+_, _-_, _*_, _/_, _<_, _≤_}
 use native.Mathlib.Omega.{arith}
 use lib.ListN.{length, take}
 use lib.Seq.{length-take-le}
@@ -22,19 +22,24 @@ unfolding fixedInput block
 of-pieces {i} {n} key label context bits ei en e =
     e ∙ ap (hmac sha256 key) (joined i label context n ∙ ap₂ (λ (x y : List ℕ). x ++ (label ++ ((0 ∷ context) ++ y))) ei en)
 
--- a key of 16 bytes is the first half of K(1)
-pub of-first-block : (key label context : List ℕ) → deriveSha256 16 key label context ≡ take 16 (block (hmac sha256) 32 key 1 (fixedInput label context 128))
-unfolding derive blocks
-of-first-block key label context = refl
+-- a key of 1 to 32 bytes needs one block
+one-block : (n : ℕ) → 0 < n → n ≤ 32 → (n + 32 - 1) / 32 ≡ 1
+one-block n l h = omega arith
 
--- byte for byte
-pub of-bytes : (key label context : List ℕ)
-    → deriveSha256 16 key label context ≡ take 16 (hmac sha256 key (0 ∷ 0 ∷ 0 ∷ 1 ∷ (label ++ (0 ∷ (context ++ (0 ∷ 0 ∷ 0 ∷ 0x80 ∷ []))))))
-unfolding derive blocks block fixedInput toBigEndian
-of-bytes key label context = refl
+module _ (n : ℕ) (l : 0 < n) (h : n ≤ 32) (key label context : List ℕ) where
+  -- such a key is the first n bytes of K(1)
+  pub of-first-block : deriveSha256 n key label context ≡ take n (block (hmac sha256) 32 key 1 (fixedInput label context (8 * n)))
+  unfolding derive blocks
+  of-first-block = rw (one-block n l h)
 
-pub length-derived : (key label context : List ℕ) → length (deriveSha256 16 key label context) ≡ 16
-length-derived key label context =
-    let text : List ℕ = 0 ∷ 0 ∷ 0 ∷ 1 ∷ (label ++ (0 ∷ (context ++ (0 ∷ 0 ∷ 0 ∷ 0x80 ∷ [])))) in
-    let l : length (hmac sha256 key text) ≡ 32 = length-hmac sha256 key text in
-    ap length (of-bytes key label context) ∙ length-take-le 16 (hmac sha256 key text) (omega arith)
+  -- byte for byte, but for the closing length, which is 00 00 00 80 for 16 bytes and 00 00 01 00 for 32
+  pub of-bytes : deriveSha256 n key label context
+      ≡ take n (hmac sha256 key (0 ∷ 0 ∷ 0 ∷ 1 ∷ (label ++ (0 ∷ (context ++ toBigEndian 4 (8 * n))))))
+  unfolding block fixedInput toBigEndian
+  of-bytes = of-first-block
+
+  pub length-derived : length (deriveSha256 n key label context) ≡ n
+  length-derived =
+      let text : List ℕ = 0 ∷ 0 ∷ 0 ∷ 1 ∷ (label ++ (0 ∷ (context ++ toBigEndian 4 (8 * n)))) in
+      let k : length (hmac sha256 key text) ≡ 32 = length-hmac sha256 key text in
+      ap length of-bytes ∙ length-take-le n (hmac sha256 key text) (omega arith)

@@ -23,6 +23,7 @@ fn first_block(key: &[u8], label: &[u8], context: &[u8], bits: u32) -> [u8; 32]
         .finish()
 }
 
+// A key of 128 bits.
 pub fn derive_16(key: &[u8], label: &[u8], context: &[u8]) -> [u8; 16]
     ensures { λ r. ⌜ r ≡ deriveSha256 16 (now (key .entry)) (now (label .entry)) (now (context .entry)) ⌝ }
 {
@@ -30,4 +31,11 @@ pub fn derive_16(key: &[u8], label: &[u8], context: &[u8]) -> [u8; 16]
     let mut derived = [0u8; 16];
     copy(&mut derived, 0, &k[..16]);
     derived
+}
+
+// A key of 256 bits.
+pub fn derive_32(key: &[u8], label: &[u8], context: &[u8]) -> [u8; 32]
+    ensures { λ r. ⌜ r ≡ deriveSha256 32 (now (key .entry)) (now (label .entry)) (now (context .entry)) ⌝ }
+{
+    first_block(key, label, context, 256)
 }

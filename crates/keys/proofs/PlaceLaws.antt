@@ -1,25 +1,33 @@
--- A place of 64 bytes that is written from its start, 16 bytes at a time.
+-- A place that is written from its start, a key at a time; and the keys that are stored there, read back.
 -- Assumes nothing.
 use mathlib.Core.Path.{_≡_, refl, sym, ap, ap₂, _∙_}
+use mathlib.Core.Bool.{Bool, true, false}
 use mathlib.Core.List.{[], _++_, append-assoc}
-use Prim.Native.Nat.{ℕ, _+_, _≤_}
+use Prim.Native.Nat.{ℕ, _+_, _≤_, min}
 use native.Mathlib.Omega.{arith}
-use lib.ListN.{length, take}
-use lib.Seq.{paste, length-paste, take-paste, take-length}
+use lib.Dec.{lit≤}
+use lib.ListN.{length, take, drop, replicate}
+use lib.Seq.{paste, length-paste, take-paste, take-length, take-at, take-all}
+use Rattle.octets.specs.Blocks.{zeroPadded}
+use Rattle.octets.proofs.BlockLaws.{zeros-replaced}
 use Rattle.protocol.specs.Bytes.{Bytes}
+use Rattle.protocol.specs.Connection.{cipherKeyBytes}
+use Rattle.protocol.specs.Keys as rules
+use Rattle.keys.specs.declared.Keys.{Keys}
+use Rattle.keys.specs.Reading.{stored, keysIn}
 
--- the first n bytes of the place are s
-pub record Written (n : ℕ) (s place : Bytes) : Type 0 where
-  pub size : length place ≡ 64
+-- the first n bytes of a place of so many bytes in all are s
+pub record Written (all n : ℕ) (s place : Bytes) : Type 0 where
+  pub size : length place ≡ all
   pub front : take n place ≡ s
 
-pub begun : (place : Bytes) → length place ≡ 64 → Written 0 [] place
-begun place l = record { size = l; front = refl }
+pub begun : (place : Bytes) → Written (length place) 0 [] place
+begun place = record { size = refl; front = refl }
 
--- 16 bytes more
-pub further : (n : ℕ) (s before key after : Bytes) → Written n s before → n + 16 ≤ 64 → 16 ≡ length key → after ≡ paste before n key (length key)
-    → Written (n + 16) (s ++ key) after
-further n s before key after w inside l e =
+-- a key of m bytes more
+pub further : (all n m : ℕ) (s before key after : Bytes) → Written all n s before → n + m ≤ all → m ≡ length key → after ≡ paste before n key (length key)
+    → Written all (n + m) (s ++ key) after
+further all n m s before key after w inside l e =
     let b = w .size in
     record {
       size = ap length e ∙ length-paste before n key (length key) (omega arith) (omega arith) ∙ w .size;
@@ -29,8 +37,44 @@ further n s before key after w inside l e =
           ∙ ap₂ _++_ (w .front) (take-length key);
     }
 
-pub written-whole : (a b c d place : Bytes) → Written 64 ((([] ++ a) ++ b) ++ c ++ d) place → place ≡ a ++ (b ++ (c ++ d))
-written-whole a b c d place w =
-    let all : take 64 place ≡ place = rw (w .size) at (take-length place) in
+pub written-whole : (all n : ℕ) (a b c d place : Bytes) → n ≡ all → Written all n ((([] ++ a) ++ b) ++ c ++ d) place → place ≡ a ++ (b ++ (c ++ d))
+written-whole all n a b c d place e w =
+    let whole : take n place ≡ place = rw (w .size ∙ sym e) at (take-length place) in
     let joined : (([] ++ a) ++ b) ++ c ++ d ≡ a ++ (b ++ (c ++ d)) = simp append-assoc in
-    sym all ∙ w .front ∙ joined
+    sym whole ∙ w .front ∙ joined
+
+-- a cipher key, without the zeros behind it
+pub unpadded : (n : ℕ) (key : Bytes) → length key ≡ n → n ≤ 32 → take n (zeroPadded 32 key) ≡ key
+unpadded n key l h =
+    ap (take n) (sym (zeros-replaced 32 key (length key) (omega arith)) ∙ ap (λ (x : Bytes). x ++ drop (length key) (replicate 32 0)) (take-length key))
+    ∙ take-at key (drop (length key) (replicate 32 0)) n l
+
+pub at-most-32 : (wide : Bool) → cipherKeyBytes wide ≤ 32
+at-most-32 true = lit≤ tt
+at-most-32 false = lit≤ tt
+
+pub stored-back : (wide : Bool) (k : rules.Keys) → length (k .clientToServer) ≡ cipherKeyBytes wide → length (k .serverToClient) ≡ cipherKeyBytes wide
+    → keysIn wide (stored k) ≡ k
+stored-back wide k c s =
+    λ i.
+    record {
+      signing = k .signing;
+      application = k .application;
+      clientToServer = unpadded (cipherKeyBytes wide) (k .clientToServer) c (at-most-32 wide) i;
+      serverToClient = unpadded (cipherKeyBytes wide) (k .serverToClient) s (at-most-32 wide) i;
+    }
+
+-- what is written of the struct, by the size of its cipher keys
+module _ (wide : Bool) (k : Keys) (place : Bytes) where
+  pub whole-written : wide ≡ true → length (k .«client_to_server») ≡ 32 → length (k .«server_to_client») ≡ 32
+      → place ≡ k .signing ++ (k .application ++ (k .«client_to_server» ++ k .«server_to_client»)) → place ≡ rules.keysInOrder (keysIn wide k)
+  whole-written w lc ls e =
+      e
+      ∙ ap₂ (λ (x y : Bytes). k .signing ++ (k .application ++ (x ++ y)))
+      (sym (take-all 32 (k .«client_to_server») (omega arith)))
+      (sym (take-all 32 (k .«server_to_client») (omega arith)))
+      ∙ rw w
+
+  pub short-written : wide ≡ false → (c s : Bytes) → c ≡ take 16 (k .«client_to_server») → s ≡ take 16 (k .«server_to_client»)
+      → place ≡ k .signing ++ (k .application ++ (c ++ s)) → place ≡ rules.keysInOrder (keysIn wide k)
+  short-written w c s ec es e = e ∙ ap₂ (λ (x y : Bytes). k .signing ++ (k .application ++ (x ++ y))) ec es ∙ rw w

@@ -45,7 +45,15 @@ receiving d s = record { role = receiver d; dialect = s .dialect; encryption = t
 -- "3 adds a plain session from the session chain": "8-byte id, high byte first, 16-byte key"
 abbrev pub labSession : Bytes → State → Adding
 labSession m s =
-    record { dialect = s .dialect; chain = s .session; id = bigEndian (bytesAt 0 8 m); material = bytesAt 8 16 m; guest = false; anonymous = false }
+    record {
+      dialect = s .dialect;
+      cipher = s .cipher;
+      chain = s .session;
+      id = bigEndian (bytesAt 0 8 m);
+      material = bytesAt 8 16 m;
+      guest = false;
+      anonymous = false;
+    }
 
 -- of a record's kind, whether it is from the server, and its payload m
 unfoldable pub callOf : ℕ → Bool → Bytes → State → Call

@@ -136,6 +136,7 @@ fn added(from: Lab, payload: &[u8]) -> Stepped
     }
     let a = Adding {
         dialect: from.dialect,
+        cipher: from.cipher,
         id: u64_at(payload, 0),
         guest: false,
         anonymous: false,

@@ -10,7 +10,7 @@ use lib.Dec.{eqb}
 use lib.ListN.{length}
 use Rattle.protocol.specs.Bytes.{Bytes}
 use Rattle.protocol.specs.Answer.{Answer, Test, judge, judgeAfter}
-use Rattle.protocol.specs.Connection.{other, Connection, cipherUsed}
+use Rattle.protocol.specs.Connection.{other, Connection, cipherUsed, usesWide, cipherKeyBytes}
 use Rattle.protocol.specs.TransformHeader.{inner, sessionIdOf, headerOf}
 use Rattle.protocol.specs.Compound.{walk}
 use Rattle.protocol.specs.Refusals.{otherSession, counterUsedUp}
@@ -21,21 +21,21 @@ use Rattle.protocol.specs.Calls.{sentBy, textTests, sealTests, openTests
 use Rattle.protocol.proofs.Judging.{judge-passed, judge-append}
 
 module _ (P : Primitives) (c : Connection) (s : Session) (known : s .used ≡ true) (free : c .constrained ≡ false)
-    (plain : (s .guest || s .anonymous) ≡ false) where
+    (plain : (s .guest || s .anonymous) ≡ false) (size : cipherKeyBytes (s .wide) ≡ cipherKeyBytes (usesWide c)) where
   record-passes : (x : Answer) → judge (recordTests c s) x ≡ x
-  record-passes x = judge-passed (recordTests c s) x (ap not known, (free, (plain, tt)))
+  record-passes x = judge-passed (recordTests c s) x (ap not known, (free, (plain, (ap not (eq-eqb _ _ size), tt))))
 
-  key-passes : (key : Bytes) → length key ≡ 16 → (x : Answer) → judge (keyTests key) x ≡ x
-  key-passes key l x = judge-passed (keyTests key) x (ap not (eq-eqb (length key) 16 l), tt)
+  key-passes : (key : Bytes) → length key ≡ cipherKeyBytes (s .wide) → (x : Answer) → judge (keyTests c key) x ≡ x
+  key-passes key l x = judge-passed (keyTests c key) x (ap not (eq-eqb (length key) _ (l ∙ size)), tt)
 
   -- a seal with the table is a seal under the record's key and counter
-  pub seal-by-key : (id : ℕ) (m : Bytes) → length (sealingKey (c .role) (s .keys)) ≡ 16
+  pub seal-by-key : (id : ℕ) (m : Bytes) → length (sealingKey (c .role) (s .keys)) ≡ cipherKeyBytes (s .wide)
       → verdict (sealTests P c m s id) ≡ answer P (sealingUnder c (sealingKey (c .role) (s .keys)) id) (messageAndCounter m (s .counter))
   unfolding sealTests tests
   seal-by-key id m l =
       judge-append (messageTests c m) (recordTests c s) after
       ∙ ap (judge (messageTests c m)) (record-passes after)
-      ∙ sym (judge-append (keyTests key) (messageTests c m) after ∙ key-passes key l (judge (messageTests c m) after))
+      ∙ sym (judge-append (keyTests c key) (messageTests c m) after ∙ key-passes key l (judge (messageTests c m) after))
     where
       key : Bytes
       key = sealingKey (c .role) (s .keys)
@@ -44,14 +44,14 @@ module _ (P : Primitives) (c : Connection) (s : Session) (known : s .used ≡ tr
       after = judgeAfter (walk (inner m) (sentBy (c .role) id)) (counterUsedUp (s .counter) ∷ [])
 
   -- an opening with the table is an opening under the record's key for the id that the header names
-  pub open-by-key : (m : Bytes) → length (openingKey (c .role) (s .keys)) ≡ 16
+  pub open-by-key : (m : Bytes) → length (openingKey (c .role) (s .keys)) ≡ cipherKeyBytes (s .wide)
       → verdict (openTests P c m s) ≡ answer P (openingUnder c (openingKey (c .role) (s .keys)) (sessionIdOf m)) (onlyMessage m)
   unfolding openTests tests
   open-by-key m l =
       judge-append front (recordTests c s ++ last) w
       ∙ ap (judge front) (judge-append (recordTests c s) last w ∙ record-passes (judge last w))
       ∙ sym (
-      judge-append (keyTests key) (front ++ (named ++ last)) w
+      judge-append (keyTests c key) (front ++ (named ++ last)) w
       ∙ key-passes key l _
       ∙ judge-append front (named ++ last) w
       ∙ ap (judge front) (judge-append named last w ∙ judge-passed named (judge last w) (ap not (eq-eqb (sessionIdOf m) (sessionIdOf m) refl), tt)))

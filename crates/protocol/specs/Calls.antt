@@ -9,27 +9,27 @@ use lib.Dec.{eqb}
 use lib.ListN.{length}
 use Rattle.protocol.specs.Bytes.{Bytes}
 use Rattle.protocol.specs.Answer.{Answer, done, whenDone, Test, judge, judgeAfter}
-use Rattle.protocol.specs.Connection.{Role, other, isServer, Connection, cipherUsed}
+use Rattle.protocol.specs.Connection.{Role, other, isServer, Connection, cipherUsed, isWide, usesWide, cipherKeyBytes, placeBytes}
 use Rattle.protocol.specs.TransformHeader.{inner, sessionIdOf, TransformHeader, headerOf}
 use Rattle.protocol.specs.InnerHeader.{Envelope}
 use Rattle.protocol.specs.Compound.{walk}
-use Rattle.protocol.specs.Keys.{sessionKey, derivedKeys, keysInOrder}
+use Rattle.protocol.specs.Keys.{derivedKeys, keysInOrder}
 use Rattle.protocol.specs.Preauth.{FoldKind, folded, foldMark}
 use Rattle.protocol.specs.Pieces.{Underway, begunFrom, notBegun, messageOf, withPiece, finishedValue}
 use Rattle.protocol.specs.Signing.{signatureUnder, signedUnder}
 use Rattle.protocol.specs.SigningPieces.{signatureOf}
 use Rattle.protocol.specs.SessionTable.{Session, sealingKey, openingKey, recordOf, changeRecord, removeRecord, hasFree, fillFree, Adding, newRecord}
 use Rattle.protocol.specs.SessionTable.{countUp, counterStep}
-use Rattle.protocol.specs.Refusals.{notEncrypting, tooShort, tooLong, notTransform, badFlags, dirtyNonce, otherSession, constrained, guest, badTag, badSize}
-use Rattle.protocol.specs.Refusals.{counterUsedUp, unknownDialect, noKeyMaterial, idZero, idTaken, tableFull, foldLength, pieceLength, badLength}
+use Rattle.protocol.specs.Refusals.{notEncrypting, tooShort, tooLong, notTransform, badFlags, dirtyNonce, otherSession, constrained, guest, otherKeySize}
+use Rattle.protocol.specs.Refusals.{badTag, badSize, counterUsedUp, unknownDialect, badKeyMaterial, idZero, idTaken, tableFull, foldLength, pieceLength, badLength}
 use Rattle.protocol.specs.Refusals.{pieceTooLong, innerTooShort, notHeader, notSigned, badSignature}
 use Rattle.protocol.specs.Transform.{Primitives, sealedUnder, plaintextUnder, openedTo}
 
 -- ---- the calls, each with all that it only reads
 
 pub data Call : Type 0 where
-  -- dialect, chain value, key material
-  derivation : ℕ → Bytes → Bytes → Call
+  -- dialect, cipher, chain value, key material
+  derivation : ℕ → ℕ → Bytes → Bytes → Call
   folding : FoldKind → Bytes → Call
   -- a message folded as it arrives: begun on a chain value, a piece of it, its finish
   foldBeginning : Bytes → Call
@@ -154,9 +154,12 @@ sentBy r id = record { id = id; fromServer = isServer r }
 
 -- ---- parts that several calls share
 
--- 40: a cipher or signing key, a chain value
-abbrev pub keyTests : Bytes → List Test
-keyTests key = badLength (eqb (length key) 16) ∷ []
+-- 40: a cipher key, a signing key, a chain value
+abbrev pub keyTests : Connection → Bytes → List Test
+keyTests c key = badLength (eqb (length key) (cipherKeyBytes (usesWide c))) ∷ []
+
+abbrev pub signingKeyTests : Bytes → List Test
+signingKeyTests key = badLength (eqb (length key) 16) ∷ []
 
 abbrev pub chainTests : Bytes → List Test
 chainTests v = badLength (eqb (length v) 64) ∷ []
@@ -175,7 +178,7 @@ headerTests c h = notTransform h ∷ badFlags h ∷ dirtyNonce c h ∷ []
 
 -- "Both .. test 3 (over the message's length), 11, 12", and 40 before them
 abbrev pub signTests : Bytes → Bytes → List Test
-signTests key m = keyTests key ++ (tooLong m ∷ innerTooShort m ∷ notHeader m 0 ∷ [])
+signTests key m = signingKeyTests key ++ (tooLong m ∷ innerTooShort m ∷ notHeader m 0 ∷ [])
 
 -- "Verifying .. then tests in this order: 24 .., 25", where right is the signature that the message should have
 abbrev pub verifyTests : Bytes → Bytes → Bytes → List Test
@@ -192,31 +195,32 @@ signFinishTests u place = badLength (eqb (length place) 16) ∷ joinedTests u
 abbrev pub verifyFinishTests : Underway → Bytes → List Test
 verifyFinishTests u right = joinedTests u ++ (notSigned (u .joined) ∷ badSignature right (u .joined) ∷ [])
 
--- 6 to 8: every sealing and opening with the table, on the record s that lookup took
+-- 6 to 8, and 35, "tested after 8": every sealing and opening with the table, on the record s that lookup took
 abbrev pub recordTests : Connection → Session → List Test
-recordTests c s = otherSession (s .used) ∷ constrained c ∷ guest s ∷ []
+recordTests c s = otherSession (s .used) ∷ constrained c ∷ guest s ∷ otherKeySize c s ∷ []
 
 -- 9 and 10: every opening, before the walk
 abbrev pub textTests : Bytes → Option Bytes → List Test
 textTests m text = badTag text ∷ badSize (headerOf m) (length (inner m)) ∷ []
 
 -- 18 and 19: deriving and adding
-abbrev pub materialTests : ℕ → Bytes → List Test
-materialTests dialect material = unknownDialect dialect ∷ noKeyMaterial material ∷ []
+abbrev pub materialTests : ℕ → ℕ → Bytes → List Test
+materialTests dialect cipher material = unknownDialect dialect ∷ badKeyMaterial (isWide dialect cipher) material ∷ []
 
 -- "Derivation alone tests 18 and 19", and 40 before them
-abbrev pub derivationTests : ℕ → Bytes → Bytes → Bytes → List Test
-derivationTests dialect chain material place = badLength (eqb (length chain) 64 && eqb (length place) 64) ∷ materialTests dialect material
+abbrev pub derivationTests : ℕ → ℕ → Bytes → Bytes → Bytes → List Test
+derivationTests dialect cipher chain material place =
+    badLength (eqb (length chain) 64 && eqb (length place) (placeBytes (isWide dialect cipher))) ∷ materialTests dialect cipher material
 
 -- "adding 18 to 22", and 40 before them; whether a used record has the id, and whether there is a free one
 abbrev pub addTests : Adding → Bool → Bool → List Test
 addTests a taken room =
-    chainTests (a .chain) ++ (materialTests (a .dialect) (a .material) ++ (idZero (a .id) ∷ idTaken taken ∷ tableFull room ∷ []))
+    chainTests (a .chain) ++ (materialTests (a .dialect) (a .cipher) (a .material) ++ (idZero (a .id) ∷ idTaken taken ∷ tableFull room ∷ []))
 
 -- ---- sealing and opening with a record
 
 module _ (P : Primitives) (c : Connection) (m : Bytes) (s : Session) where
-  -- "sealing 1, 2, 3, 6, 7, 8, 11 to 16, 17"
+  -- "sealing 1, 2, 3, 6, 7, 8, 11 to 16, 17", with 35 after 8
   unfoldable pub sealTests : ℕ → Tests
   sealTests id = record { before = messageTests c m ++ recordTests c s; walked = over (inner m) (sentBy (c .role) id); later = counterUsedUp (s .counter) ∷ [] }
 
@@ -226,7 +230,7 @@ module _ (P : Primitives) (c : Connection) (m : Bytes) (s : Session) where
   abbrev pub plaintext : Option Bytes
   plaintext = plaintextUnder (P .ciphers) (cipherUsed c) (openingKey (c .role) (s .keys)) m
 
-  -- "Opening tests 1 to 16"
+  -- "Opening tests 1 to 16", with 29 after 5 and 35 after 8
   unfoldable pub openTests : Tests
   openTests =
       record {
@@ -239,8 +243,7 @@ module _ (P : Primitives) (c : Connection) (m : Bytes) (s : Session) where
 
 module _ (P : Primitives) where
   unfoldable pub tests : Call → Lent → Tests
-  tests (derivation dialect chain material) w =
-      lines (derivationTests dialect chain material (w .keys))
+  tests (derivation dialect cipher chain material) w = lines (derivationTests dialect cipher chain material (w .keys))
   tests (folding kind m) w = foldTests kind (w .chain) m
   tests (foldBeginning v) w = lines (chainTests v)
   tests (foldPiece p) w = lines (pieceLength (w .underway) p ∷ [])
@@ -249,7 +252,7 @@ module _ (P : Primitives) where
   -- "Under one given key, 7 and 8 do not arise", and "sealing has no 6"
   tests (sealingUnder c key id) w =
       record {
-        before = keyTests key ++ messageTests c (w .message);
+        before = keyTests c key ++ messageTests c (w .message);
         walked = over (inner (w .message)) (sentBy (c .role) id);
         later = counterUsedUp (w .counter) ∷ [];
       }
@@ -257,13 +260,13 @@ module _ (P : Primitives) where
       let m = w .message in
       let text = plaintextUnder (P .ciphers) (cipherUsed c) key m in
       record {
-        before = keyTests key ++ (messageTests c m ++ (headerTests c (headerOf m) ++ (otherSession (eqb (sessionIdOf m) id) ∷ textTests m text)));
+        before = keyTests c key ++ (messageTests c m ++ (headerTests c (headerOf m) ++ (otherSession (eqb (sessionIdOf m) id) ∷ textTests m text)));
         walked = over (Option·getD text []) (sentBy (other (c .role)) id);
         later = [];
       }
   tests (signingUnder key) w = lines (signTests key (w .message))
   tests (verifyingUnder key) w = lines (verifyTests key (w .message) (signatureUnder (P .cmac) key (w .message)))
-  tests (signBeginning key) w = lines (keyTests key)
+  tests (signBeginning key) w = lines (signingKeyTests key)
   tests (signPiece p) w = lines (pieceTooLong (w .underway) p ∷ [])
   tests (signFinishing u) w = lines (signFinishTests u (w .signature))
   tests (verifyFinishing u) w = lines (verifyFinishTests u (signatureUnder (P .cmac) (u .start) (u .joined)))
@@ -276,7 +279,7 @@ module _ (P : Primitives) where
 
   -- what it leaves where it answers 0
   unfoldable pub effect : Call → Lent → Lent
-  effect (derivation dialect chain material) w = withKeys (keysInOrder (derivedKeys (P .kdf) dialect chain (sessionKey material))) w
+  effect (derivation dialect cipher chain material) w = withKeys (keysInOrder (derivedKeys (P .kdf) dialect cipher chain material)) w
   effect (folding kind m) w = withChain (folded (P .sha512) kind (w .chain) m) w
   effect (foldBeginning v) w = withUnderway (begunFrom v) w
   effect (foldPiece p) w = withUnderway (withPiece p (w .underway)) w

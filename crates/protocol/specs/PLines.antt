@@ -14,7 +14,7 @@ use Rattle.protocol.specs.Answer.{done, refused}
 use Rattle.protocol.specs.Connection.{Connection, server}
 use Rattle.protocol.specs.InnerHeader.{Envelope}
 use Rattle.protocol.specs.Compound.{walk}
-use Rattle.protocol.specs.Keys.{smbC2SCipherKey, derivationInput, derivedKeys}
+use Rattle.protocol.specs.Keys.{sessionKey, smbC2SCipherKey, derivationInput, derivedKeys}
 use Rattle.protocol.specs.SessionTable.{Session, zeroKeys}
 use Rattle.protocol.specs.TransformHeader.{nonceOf}
 use Rattle.protocol.specs.Calls.{opening, messageAndTable, answer}
@@ -37,7 +37,7 @@ onServer constrained = record { role = server; dialect = 0x0311; encryption = tr
 
 -- a table with session 5
 abbrev pub tableOf : Bool → List Session
-tableOf guest = record { used = true; id = 5; guest = guest; anonymous = false; keys = zeroKeys; counter = 0 } ∷ []
+tableOf guest = record { used = true; id = 5; guest = guest; anonymous = false; wide = false; keys = zeroKeys; counter = 0 } ∷ []
 
 -- sealed for session 5, from the server or from a client
 abbrev pub session5 : Bool → Envelope
@@ -55,7 +55,8 @@ pub record PLines : Type 0 where
   pub P9 : (fromServer : Bool) → walk (header 0 68 5 ++ (replicate 8 0 ++ header 4 0 9)) (session5 fromServer) ≡ refused 16
   pub P10 : (fromServer : Bool) → walk (header 0 64 5 ++ replicate 63 0) (session5 fromServer) ≡ refused 15
   pub P11 : (fromServer : Bool) → walk (header 0 4294967288 5 ++ header 4 0 9) (session5 fromServer) ≡ refused 15
-  pub P12 : (key chain : Bytes) → length chain ≡ 64
-      → ((derivedKeys kdf 0x0311 chain key) .clientToServer ≡ take 16 (hmac sha256 key (derivationInput smbC2SCipherKey chain)))
-      × (length (derivationInput smbC2SCipherKey chain) ≡ 89)
+  pub P12 : (material chain : Bytes) → length chain ≡ 64
+      → ((derivedKeys kdf 0x0311 1 chain material) .clientToServer
+      ≡ take 16 (hmac sha256 (sessionKey material) (derivationInput 16 smbC2SCipherKey chain)))
+      × (length (derivationInput 16 smbC2SCipherKey chain) ≡ 89)
   pub P13 : nonceOf 1 ≡ 1 ∷ replicate 15 0

@@ -10,7 +10,7 @@ use Rattle.octets.specs.Maybe.{isSome}
 use Rattle.octets.specs.Same.{sameBytes}
 use Rattle.protocol.specs.Bytes.{Bytes}
 use Rattle.protocol.specs.Answer.{Test, refuse_when_}
-use Rattle.protocol.specs.Connection.{Connection, knownDialect, encrypts, usesGcm, longestMessage, lastCounter}
+use Rattle.protocol.specs.Connection.{Connection, knownDialect, encrypts, usesGcm, usesWide, cipherKeyBytes, longestMessage, longestMaterial, lastCounter}
 use Rattle.protocol.specs.TransformHeader.{TransformHeader}
 use Rattle.protocol.specs.InnerHeader.{isInnerHeader, isRelated, Envelope, belongs}
 use Rattle.protocol.specs.Preauth.{admitted}
@@ -18,7 +18,7 @@ use Rattle.protocol.specs.Pieces.{Underway, pieceFits}
 use Rattle.protocol.specs.Signing.{isSigned, signatureField}
 use Rattle.protocol.specs.SessionTable.{Session}
 
--- "dialect not one of the three, or encryption off, or cipher 0, or dialect 3.1.1 with a cipher other than 1 or 2"
+-- "dialect not one of the three, or encryption off, or cipher 0, or dialect 3.1.1 with a cipher other than" 1 to 4
 abbrev pub notEncrypting : Connection → Test
 notEncrypting c = refuse 1 when not (encrypts c)
 
@@ -57,6 +57,10 @@ constrained c = refuse 7 when c .constrained
 -- "record is guest or anonymous"
 abbrev pub guest : Session → Test
 guest s = refuse 8 when s .guest || s .anonymous
+
+-- "using it with a cipher of the other size"
+abbrev pub otherKeySize : Connection → Session → Test
+otherKeySize c s = refuse 35 when not (eqb (cipherKeyBytes (s .wide)) (cipherKeyBytes (usesWide c)))
 
 -- "tag differs": there is no plaintext
 abbrev pub badTag : Option Bytes → Test
@@ -99,9 +103,9 @@ counterUsedUp counter = refuse 17 when eqb counter lastCounter
 abbrev pub unknownDialect : ℕ → Test
 unknownDialect dialect = refuse 18 when not (knownDialect dialect)
 
--- "adding: empty session key"
-abbrev pub noKeyMaterial : Bytes → Test
-noKeyMaterial material = refuse 19 when eqb (length material) 0
+-- "adding: empty session key"; "for these ciphers on 3.1.1 .. also .. key material over 65,536 bytes"
+abbrev pub badKeyMaterial : Bool → Bytes → Test
+badKeyMaterial wide material = refuse 19 when eqb (length material) 0 || (wide && ltb longestMaterial (length material))
 
 -- "adding: id 0"
 abbrev pub idZero : ℕ → Test
@@ -132,6 +136,7 @@ abbrev pub badSignature : Bytes → Bytes → Test
 badSignature right m = refuse 25 when not (sameBytes (signatureField m) right)
 
 -- "a lent cipher or signing key (not key material) is not 16, a lent chain value not 64 (on every dialect), or the place for the four keys
--- not 64 bytes long"; and, our answer, the place for the signature of a message in pieces not 16: whether all that is lent has its length
+-- not 64 bytes long"; "a cipher key is 32 and the place for the four keys 96 bytes exactly on 3.1.1 with cipher 3 or 4"; and, our answer,
+-- the place for the signature of a message in pieces not 16: whether all that is lent has its length
 abbrev pub badLength : Bool → Test
 badLength fits = refuse 40 when not fits

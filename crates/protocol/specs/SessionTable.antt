@@ -6,31 +6,33 @@ use Prim.Native.Nat.{ℕ, _+_}
 use lib.Dec.{leb, eqb}
 use lib.ListN.{replicate}
 use Rattle.protocol.specs.Bytes.{Bytes}
-use Rattle.protocol.specs.Connection.{Role, client, server, other, lastCounter}
-use Rattle.protocol.specs.Keys.{Keys, sessionKey, derivedKeys}
+use Rattle.protocol.specs.Connection.{Role, client, server, other, isWide, cipherKeyBytes, lastCounter}
+use Rattle.protocol.specs.Keys.{Keys, derivedKeys}
 
--- "a lent run of session records: used or free, id, guest, anonymous, four 16-byte keys, 64-bit send counter"
+-- "a lent run of session records: used or free, id, guest, anonymous, four .. keys, 64-bit send counter"; "the record keeps its key size"
 pub record Session : Type 0 where
   pub used : Bool
   pub id : ℕ
   pub guest : Bool
   pub anonymous : Bool
+  pub wide : Bool
   pub keys : Keys
   pub counter : ℕ
 
-abbrev pub zeroKey : Bytes
-zeroKey = replicate 16 0
+abbrev pub zeroKey : ℕ → Bytes
+zeroKey n = replicate n 0
 
 abbrev pub zeroKeys : Keys
-zeroKeys = record { signing = zeroKey; application = zeroKey; clientToServer = zeroKey; serverToClient = zeroKey }
+zeroKeys = record { signing = zeroKey 16; application = zeroKey 16; clientToServer = zeroKey 16; serverToClient = zeroKey 16 }
 
 -- "free and all zero"
 abbrev pub freeRecord : Session
 freeRecord =
-    record { used = false; id = 0; guest = false; anonymous = false; keys = zeroKeys; counter = 0 }
+    record { used = false; id = 0; guest = false; anonymous = false; wide = false; keys = zeroKeys; counter = 0 }
 
 abbrev pub withCounter : ℕ → Session → Session
-withCounter n s = record { used = s .used; id = s .id; guest = s .guest; anonymous = s .anonymous; keys = s .keys; counter = n }
+withCounter n s =
+    record { used = s .used; id = s .id; guest = s .guest; anonymous = s .anonymous; wide = s .wide; keys = s .keys; counter = n }
 
 -- "A client seals with the first cipher key and opens with the second; a server the other way round."
 abbrev pub sealingKey : Role → Keys → Bytes
@@ -73,18 +75,19 @@ fillFree new (s ∷ t) = cond (s .used) (s ∷ fillFree new t) (new ∷ t)
 -- what adding is given
 pub record Adding : Type 0 where
   pub dialect : ℕ
+  pub cipher : ℕ
   pub chain : Bytes
   pub id : ℕ
   pub material : Bytes
   pub guest : Bool
   pub anonymous : Bool
 
--- "Guest and anonymous records hold zero cipher keys."
-abbrev pub keysHeld : Bool → Keys → Keys
-keysHeld true k = record { signing = k .signing; application = k .application; clientToServer = zeroKey; serverToClient = zeroKey }
-keysHeld false k = k
+-- "Guest and anonymous records hold zero cipher keys", of n bytes each
+abbrev pub keysHeld : Bool → ℕ → Keys → Keys
+keysHeld true n k = record { signing = k .signing; application = k .application; clientToServer = zeroKey n; serverToClient = zeroKey n }
+keysHeld false n k = k
 
-module _ (kdf : Bytes → Bytes → Bytes → Bytes) where
+module _ (kdf : ℕ → Bytes → Bytes → Bytes → Bytes) where
   -- the record that adding makes
   abbrev pub newRecord : Adding → Session
   newRecord a =
@@ -93,7 +96,10 @@ module _ (kdf : Bytes → Bytes → Bytes → Bytes) where
         id = a .id;
         guest = a .guest;
         anonymous = a .anonymous;
-        keys = keysHeld (a .guest || a .anonymous) (derivedKeys kdf (a .dialect) (a .chain) (sessionKey (a .material)));
+        wide = isWide (a .dialect) (a .cipher);
+        keys =
+            keysHeld (a .guest || a .anonymous) (cipherKeyBytes (isWide (a .dialect) (a .cipher)))
+            (derivedKeys kdf (a .dialect) (a .cipher) (a .chain) (a .material));
         counter = 0;
       }
 

@@ -2,14 +2,16 @@
 -- Assumes nothing.
 use mathlib.Core.Path.{_≡_}
 use mathlib.Core.Option.{some}
+use mathlib.Core.Bool.{Bool}
 use Prim.Native.Nat.{ℕ}
 use lib.ListN.{length}
 use Rattle.protocol.specs.Bytes.{Bytes}
+use Rattle.protocol.specs.Connection.{cipherKeyBytes}
 use Rattle.protocol.specs.Transform.{Primitives}
 
 pub record Sound (P : Primitives) : Type 0 where
   pub hash-length : (s : Bytes) → length (P .sha512 s) ≡ 64
-  pub key-length : (key label context : Bytes) → length (P .kdf key label context) ≡ 16
+  pub key-length : (wide : Bool) (key label context : Bytes) → length (P .kdf (cipherKeyBytes wide) key label context) ≡ cipherKeyBytes wide
   pub signature-length : (key m : Bytes) → length (P .cmac key m) ≡ 16
   pub tag-length : (cipher : ℕ) (key nonce auth p : Bytes) → length (P .ciphers .tag cipher key nonce auth p) ≡ 16
   pub encrypt-length : (cipher : ℕ) (key nonce auth p : Bytes) → length (P .ciphers .encrypt cipher key nonce auth p) ≡ length p

@@ -1,19 +1,20 @@
 -- The suite: the primitives that RULES 1, 6 and 15 name, out of their own crates' definitions.
 -- Assumes nothing.
+use Prim.Native.Nat.{ℕ}
 use Rattle.sha2.specs.Sha2.{hash}
 use Rattle.sha2.specs.Sha512 as sha2
 use Rattle.kdf.specs.CounterMode.{deriveSha256}
 use Rattle.cmac.specs.Cmac as rfc4493
 use Rattle.protocol.specs.Bytes.{Bytes}
-use Rattle.protocol.specs.Ciphers.{aes128, cipherOf}
+use Rattle.protocol.specs.Ciphers.{aes, cipherOf}
 use Rattle.protocol.specs.Transform.{Ciphers, Primitives}
 
 unfoldable pub suite : Primitives
 suite =
     record {
       sha512 = hash sha2.sha512;
-      kdf = deriveSha256 16;
-      cmac = λ key m. rfc4493.cmac (aes128 key) m;
+      kdf = deriveSha256;
+      cmac = λ key m. rfc4493.cmac (aes key) m;
       ciphers = record { encrypt = λ n. (cipherOf n) .encrypt; tag = λ n. (cipherOf n) .tag; decrypt = λ n. (cipherOf n) .decrypt };
     }
 
@@ -21,7 +22,7 @@ suite =
 abbrev pub sha512 : Bytes → Bytes
 sha512 = suite .sha512
 
-abbrev pub kdf : Bytes → Bytes → Bytes → Bytes
+abbrev pub kdf : ℕ → Bytes → Bytes → Bytes → Bytes
 kdf = suite .kdf
 
 abbrev pub cmac : Bytes → Bytes → Bytes

@@ -21,8 +21,8 @@ pub record Ciphers : Type 0 where
 
 pub record Primitives : Type 0 where
   pub sha512 : Bytes → Bytes
-  -- key, label, context
-  pub kdf : Bytes → Bytes → Bytes → Bytes
+  -- bytes asked for, key, label, context
+  pub kdf : ℕ → Bytes → Bytes → Bytes → Bytes
   -- key, message
   pub cmac : Bytes → Bytes → Bytes
   pub ciphers : Ciphers

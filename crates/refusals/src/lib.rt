@@ -7,15 +7,24 @@ ghost use mathlib.Core.Path.{_≡_};
 ghost use lib.ListN.{length};
 ghost use Rattle.protocol.specs.Answer.{firstElse};
 ghost use Rattle.protocol.specs.TransformHeader.{inner};
-ghost use Rattle.protocol.specs.Calls.{keyTests, messageTests, headerTests};
+ghost use Rattle.protocol.specs.Calls.{keyTests, signingKeyTests, messageTests, headerTests};
 ghost use Rattle.connection.specs.Reading.{connectionOf};
 ghost use Rattle.transform_header.specs.Reading.{headerFrom};
 
-// 40, of a cipher key.
-pub fn key_number(key: &[u8], later: u32) -> u32
-    ensures { λ r. ⌜ r ≡ firstElse (keyTests (now (key .entry))) later ⌝ }
+// 40, of a signing key.
+pub fn signing_key_number(key: &[u8], later: u32) -> u32
+    ensures { λ r. ⌜ r ≡ firstElse (signingKeyTests (now (key .entry))) later ⌝ }
 {
     refuse(40, !(key.len() == 16), later)
+}
+
+// 40, of a cipher key.
+pub fn key_number(c: Connection, key: &[u8], later: u32) -> u32
+    ensures { λ r. ⌜ r ≡ firstElse (keyTests (connectionOf c) (now (key .entry))) later ⌝ }
+{
+    let wide = connection::uses_wide(c);
+    let bytes = connection::cipher_key_bytes(wide);
+    refuse(40, !(key.len() == bytes), later)
 }
 
 // How many bytes stand after the header.

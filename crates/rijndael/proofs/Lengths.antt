@@ -1,14 +1,12 @@
 -- Laws for the layers above: the lengths of what the cipher and the key expansion give.
 use mathlib.Core.Path.{_≡_, refl, ap}
-use mathlib.Core.Bool.{Bool, true}
-use mathlib.Core.List.{List, [], _∷_}
-use Prim.Native.Nat.{ℕ, zero, suc, _+_, _<_}
-use native.Mathlib.Nat.{le-of-suc-le-suc, not-suc-le-zero}
-use lib.Dec.{T, eqb, eqb→eq}
-use lib.ListN.{length, getD}
+use mathlib.Core.List.{List}
+use Prim.Native.Nat.{ℕ, zero, suc, _+_, _-_, _/_}
+use native.Mathlib.Omega.{arith}
+use lib.ListN.{length}
 use Rattle.rijndael.specs.Cipher.{cipher, addRoundKey, state}
-use Rattle.rijndael.specs.KeyExpansion.{keyExpansion, roundKeys, words, keyWords, xorWord, wordOf}
-use Rattle.octets.proofs.Every.{both, both-left, both-right}
+use Rattle.rijndael.specs.KeyExpansion.{keyExpansion, roundKeys}
+use Rattle.rijndael.specs.BlockCipher.{blockCipher, roundCount, expandedKey}
 
 pub length-cipher : (nr : ℕ) (w : List (List ℕ)) (s : List ℕ) → length (cipher nr w s) ≡ 16
 unfolding cipher addRoundKey state
@@ -23,16 +21,24 @@ pub length-expansion : (nk nr : ℕ) (key : List ℕ) → length (keyExpansion n
 unfolding keyExpansion
 length-expansion nk nr key = length-roundKeys _ _ _
 
--- each list has n elements
-abbrev rows : ℕ → List (List ℕ) → Bool
-rows n [] = true
-rows n (r ∷ rs) = both (eqb (length r) n) (rows n rs)
+-- the expanded key of a key of 16 bytes, and of one of 32
+pub expanded-16 : (key : List ℕ) → length key ≡ 16 → expandedKey key ≡ keyExpansion 4 10 key
+unfolding expandedKey roundCount
+expanded-16 key h = ap (λ (n : ℕ). keyExpansion (n / 4) (n / 4 + 6) key) h
 
-row : (n : ℕ) (rs : List (List ℕ)) → T (rows n rs) → (i : ℕ) → i < length rs → length (getD rs i []) ≡ n
-row n [] t i h = absurd (not-suc-le-zero h)
-row n (r ∷ rs) t zero h = eqb→eq (length r) n (both-left (eqb (length r) n) (rows n rs) t)
-row n (r ∷ rs) t (suc i) h = row n rs (both-right (eqb (length r) n) (rows n rs) t) i (le-of-suc-le-suc h)
+pub expanded-32 : (key : List ℕ) → length key ≡ 32 → expandedKey key ≡ keyExpansion 8 14 key
+unfolding expandedKey roundCount
+expanded-32 key h = ap (λ (n : ℕ). keyExpansion (n / 4) (n / 4 + 6) key) h
 
-pub length-round-key : (key : List ℕ) (i : ℕ) → i < 11 → length (getD (keyExpansion 4 10 key) i []) ≡ 16
-unfolding keyExpansion roundKeys words keyWords xorWord wordOf
-length-round-key key i h = row 16 (keyExpansion 4 10 key) tt i h
+pub length-expandedKey : (key : List ℕ) → length (expandedKey key) ≡ roundCount (length key) + 1
+unfolding expandedKey
+length-expandedKey key = length-expansion _ _ key
+
+-- a key's length says how many rounds there are
+pub by-length : (key : List ℕ) → blockCipher (expandedKey key) ≡ cipher (roundCount (length key)) (expandedKey key)
+by-length key =
+    let l : length (expandedKey key) - 1 ≡ roundCount (length key) = let e = length-expandedKey key in omega arith in
+    ap (λ (n : ℕ). cipher n (expandedKey key)) l
+
+pub length-blockCipher : (keys : List (List ℕ)) (s : List ℕ) → length (blockCipher keys s) ≡ 16
+length-blockCipher keys s = length-cipher (length keys - 1) keys s

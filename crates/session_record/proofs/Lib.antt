@@ -1,3 +1,5 @@
 pub mod Sealing
 pub mod Opening
+pub mod KeyLaws
 pub mod AddingLaws
+pub mod StoredLaws

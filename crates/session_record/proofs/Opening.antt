@@ -5,12 +5,12 @@ use mathlib.Core.Bool.{Bool, true, false}
 use mathlib.Core.List.{List, [], _++_}
 use mathlib.Core.Option.{Option·getD}
 use Prim.Native.Nat.{ℕ, _<_}
-use borrow.Author.Tests.{not-false, leb-false}
+use borrow.Author.Tests.{eqb-true, not-false, leb-false}
 use lib.Dec.{leb}
 use lib.ListN.{length}
 use Rattle.protocol.specs.Bytes.{Bytes}
 use Rattle.protocol.specs.Answer.{Answer, refused, whenDone, Test, firstElse, firstOf, judge, judgeAfter}
-use Rattle.protocol.specs.Connection.{other, Connection}
+use Rattle.protocol.specs.Connection.{other, Connection, usesWide, cipherKeyBytes}
 use Rattle.protocol.specs.TransformHeader.{TransformHeader, headerOf, sessionIdOf}
 use Rattle.protocol.specs.Compound.{walk}
 use Rattle.protocol.specs.SessionTable.{Session, openingKey}
@@ -65,16 +65,17 @@ module _ (c : Connection) (s : Session) (m : Bytes) where
       long = leb-false (length m) 52 (line lines none 2)
 
       -- the opening under the record's key for the id that the header names
-      pub open-done : (key : Bytes) → key ≡ openingKey (c .role) (s .keys) → length key ≡ 16 → (m′ : Bytes) (a : Answer)
+      pub open-done : (key : Bytes) → key ≡ openingKey (c .role) (s .keys) → length key ≡ cipherKeyBytes (s .wide) → (m′ : Bytes) (a : Answer)
           → Makes (openingUnder c key (h .sessionId)) (onlyMessage m) a (onlyMessage m′) → OpensWith s c m m′ a
       unfolding effect
       open-done key ek l m′ a o =
           let there : h ≡ headerOf m = eh ∙ header-there m long in
           let rest = lines-after front (recordTests c s) none in
           let known = not-false (s .used) (line (recordTests c s) rest 6) in
+          let size = eqb-true (cipherKeyBytes (s .wide)) (cipherKeyBytes (usesWide c)) (not-false _ (line (recordTests c s) rest 35)) in
           let call = openingUnder c (openingKey (c .role) (s .keys)) (sessionIdOf m) in
           let o′ : Makes call (onlyMessage m) a (onlyMessage m′) = rw (ek, there) at o in
-          let same = open-by-key suite c s known (line (recordTests c s) rest 7) (line (recordTests c s) rest 8) m (sym (ap length ek) ∙ l) in
+          let same = open-by-key suite c s known (line (recordTests c s) rest 7) (line (recordTests c s) rest 8) size m (sym (ap length ek) ∙ l) in
           record {
             answer = o′ .answers ∙ sym same;
             bytes =

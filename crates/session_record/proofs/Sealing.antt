@@ -3,11 +3,11 @@
 use mathlib.Core.Path.{_≡_, refl, sym, ap, _∙_}
 use mathlib.Core.List.{List, [], _∷_, _++_}
 use Prim.Native.Nat.{ℕ}
-use borrow.Author.Tests.{not-false}
+use borrow.Author.Tests.{eqb-true, not-false}
 use lib.ListN.{length}
 use Rattle.protocol.specs.Bytes.{Bytes}
 use Rattle.protocol.specs.Answer.{Answer, refused, whenDone, Test, firstElse, firstOf, judgeAfter}
-use Rattle.protocol.specs.Connection.{Connection}
+use Rattle.protocol.specs.Connection.{Connection, usesWide, cipherKeyBytes}
 use Rattle.protocol.specs.TransformHeader.{inner}
 use Rattle.protocol.specs.Compound.{walk}
 use Rattle.protocol.specs.Refusals.{counterUsedUp}
@@ -39,14 +39,15 @@ module _ (c : Connection) (s : Session) (id : ℕ) (m : Bytes) where
         record { answer = sym q; bytes = sym (ap (λ (x : Answer). whenDone x (λ k. sealedWith suite c m s id) m) q) }
 
     -- the seal under the record's key
-    pub seal-done : n ≡ 0 → (key : Bytes) → key ≡ sealingKey (c .role) (s .keys) → length key ≡ 16 → (m′ : Bytes) (k : ℕ) (a : Answer)
+    pub seal-done : n ≡ 0 → (key : Bytes) → key ≡ sealingKey (c .role) (s .keys) → length key ≡ cipherKeyBytes (s .wide) → (m′ : Bytes) (k : ℕ) (a : Answer)
         → Makes (sealingUnder c key id) (messageAndCounter m (s .counter)) a (messageAndCounter m′ k) → SealsWith s c id m m′ a
     unfolding effect
     seal-done z key ek l m′ k a o =
         let none = lines-after (messageTests c m) (recordTests c s) (passes lines n refl said z) in
         let known = not-false (s .used) (line (recordTests c s) none 6) in
+        let size = eqb-true (cipherKeyBytes (s .wide)) (cipherKeyBytes (usesWide c)) (not-false _ (line (recordTests c s) none 35)) in
         let o′ : Makes (sealingUnder c (sealingKey (c .role) (s .keys)) id) (messageAndCounter m (s .counter)) a (messageAndCounter m′ k) = rw ek at o in
-        let same = seal-by-key suite c s known (line (recordTests c s) none 7) (line (recordTests c s) none 8) id m (sym (ap length ek) ∙ l) in
+        let same = seal-by-key suite c s known (line (recordTests c s) none 7) (line (recordTests c s) none 8) size id m (sym (ap length ek) ∙ l) in
         let call = sealingUnder c (sealingKey (c .role) (s .keys)) id in
         record {
           answer = o′ .answers ∙ sym same;

@@ -3,11 +3,16 @@
 use mathlib.Core.Bool.{Bool, true, false, cond, not, _&&_}
 use Prim.Native.Nat.{ℕ, _+_}
 use lib.Dec.{leb, eqb}
-use lib.ListN.{replicate}
-use Rattle.protocol.specs.Connection.{lastCounter}
+use lib.ListN.{take, replicate}
+use Rattle.octets.specs.Blocks.{zeroPadded}
+use Rattle.protocol.specs.Connection.{cipherKeyBytes, lastCounter}
 use Rattle.protocol.specs.SessionTable as table
 use Rattle.connection.specs.Reading.{flag, bitOf}
 use Rattle.session_record.specs.declared.Session.{Session}
+
+-- how many bytes of its place a cipher key takes
+abbrev pub keyBytes : Session → ℕ
+keyBytes s = cipherKeyBytes (flag (s .wide))
 
 abbrev pub sessionOf : Session → table.Session
 sessionOf s =
@@ -16,11 +21,18 @@ sessionOf s =
       id = s .id;
       guest = flag (s .guest);
       anonymous = flag (s .anonymous);
-      keys = record { signing = s .signing; application = s .application; clientToServer = s .«client_to_server»; serverToClient = s .«server_to_client» };
+      wide = flag (s .wide);
+      keys =
+          record {
+            signing = s .signing;
+            application = s .application;
+            clientToServer = take (keyBytes s) (s .«client_to_server»);
+            serverToClient = take (keyBytes s) (s .«server_to_client»);
+          };
       counter = s .counter;
     }
 
--- a record as the library stores it, every byte of it: flags are 0 or 1, and the spare bytes 0
+-- a record as the library stores it, every byte of it: flags are 0 or 1, and what is behind a cipher key of 16 bytes and the spare bytes 0
 abbrev pub stored : table.Session → Session
 stored s =
     record {
@@ -28,12 +40,13 @@ stored s =
       counter = s .counter;
       signing = s .keys .signing;
       application = s .keys .application;
-      «client_to_server» = s .keys .clientToServer;
-      «server_to_client» = s .keys .serverToClient;
+      «client_to_server» = zeroPadded 32 (s .keys .clientToServer);
+      «server_to_client» = zeroPadded 32 (s .keys .serverToClient);
       used = bitOf (s .used);
       guest = bitOf (s .guest);
       anonymous = bitOf (s .anonymous);
-      spare = replicate 5 0;
+      wide = bitOf (s .wide);
+      spare = replicate 4 0;
     }
 
 -- a free record, all zero
@@ -53,6 +66,7 @@ withCounter n s =
       used = s .used;
       guest = s .guest;
       anonymous = s .anonymous;
+      wide = s .wide;
       spare = s .spare;
     }
 

@@ -3,34 +3,39 @@ mod lines;
 mod new;
 
 use answer::Answer;
+use answer::refuse;
 use connection::Connection;
 ghost use mathlib.Core.Path.{_≡_};
 ghost use mathlib.Core.Bool.{cond};
+ghost use lib.ListN.{take};
 ghost use Rattle.protocol.specs.SessionTable.{sealingKey, openingKey};
 ghost use Rattle.answer.specs.Reading.{answerOf};
 ghost use Rattle.connection.specs.Reading.{flag, roleOf, connectionOf};
-ghost use Rattle.session_record.specs.Reading.{free, isWanted, sessionOf, stepped};
+ghost use Rattle.session_record.specs.Reading.{free, isWanted, keyBytes, sessionOf, stepped};
 ghost use Rattle.session_record.specs.Contracts.{SealsWith, counterMoves, OpensWith, namedId, removedOf};
 ghost use Rattle.session_record.specs.Adds.{addingFor, addingOf, AddsWith};
 
-// struct smb3seal_session: any bytes are a record. A flag is a byte, 0 for no and anything else for yes.
+// struct smb3seal_session: any bytes are a record. A flag is a byte, 0 for no and anything else for yes. Where `wide` is 0 a cipher key is
+// the first 16 of its bytes.
 #[repr(C)]
 pub struct Session {
     pub id: u64,
     pub counter: u64,
     pub signing: [u8; 16],
     pub application: [u8; 16],
-    pub client_to_server: [u8; 16],
-    pub server_to_client: [u8; 16],
+    pub client_to_server: [u8; 32],
+    pub server_to_client: [u8; 32],
     pub used: u8,
     pub guest: u8,
     pub anonymous: u8,
-    pub spare: [u8; 5],
+    pub wide: u8,
+    pub spare: [u8; 4],
 }
 
 // What adding takes beside the key material and the chain value.
 pub struct Adding {
     pub dialect: u16,
+    pub cipher: u16,
     pub id: u64,
     pub guest: bool,
     pub anonymous: bool,
@@ -47,17 +52,19 @@ pub fn vacant() -> Session
     ensures { λ r. ⌜ r ≡ free ⌝ }
 {
     let none = [0u8; 16];
-    let spare = [0u8; 5];
+    let no_cipher_key = [0u8; 32];
+    let spare = [0u8; 4];
     Session {
         id: 0,
         counter: 0,
         signing: none,
         application: none,
-        client_to_server: none,
-        server_to_client: none,
+        client_to_server: no_cipher_key,
+        server_to_client: no_cipher_key,
         used: 0,
         guest: 0,
         anonymous: 0,
+        wide: 0,
         spare: spare,
     }
 }
@@ -68,6 +75,7 @@ pub fn adding_for(c: Connection, id: u64, guest: u32, anonymous: u32) -> Adding
 {
     Adding {
         dialect: c.dialect,
+        cipher: c.cipher,
         id: id,
         guest: guest != 0,
         anonymous: anonymous != 0,
@@ -101,9 +109,9 @@ pub fn step_record(s: Session, by: u64) -> Session
     t
 }
 
-// The key of what a client sends, or of what a server sends.
-fn key_from(s: Session, client: bool) -> [u8; 16]
-    ensures { λ r. ⌜ r ≡ cond client (sessionOf s .keys .clientToServer) (sessionOf s .keys .serverToClient) ⌝ }
+// The key of what a client sends, or of what a server sends, with what is behind it.
+fn key_from(s: Session, client: bool) -> [u8; 32]
+    ensures { λ r. ⌜ r ≡ cond client (s .«client_to_server») (s .«server_to_client») ⌝ }
 {
     if client {
         s.client_to_server
@@ -112,16 +120,23 @@ fn key_from(s: Session, client: bool) -> [u8; 16]
     }
 }
 
+// How many bytes a cipher key of the record has.
+fn key_bytes(s: Session) -> usize
+    ensures { λ r. ⌜ r ≡ keyBytes s ⌝ }
+{
+    connection::cipher_key_bytes(s.wide != 0)
+}
+
 // A client seals with the first cipher key, a server with the second.
-fn sealing_key(s: Session, role: u8) -> [u8; 16]
-    ensures { λ r. ⌜ r ≡ sealingKey (roleOf role) (sessionOf s .keys) ⌝ }
+fn sealing_key(s: Session, role: u8) -> [u8; 32]
+    ensures { λ r. ⌜ take (keyBytes s) r ≡ sealingKey (roleOf role) (sessionOf s .keys) ⌝ }
 {
     key_from(s, role == connection::CLIENT)
 }
 
 // And opens with the other.
-fn opening_key(s: Session, role: u8) -> [u8; 16]
-    ensures { λ r. ⌜ r ≡ openingKey (roleOf role) (sessionOf s .keys) ⌝ }
+fn opening_key(s: Session, role: u8) -> [u8; 32]
+    ensures { λ r. ⌜ take (keyBytes s) r ≡ openingKey (roleOf role) (sessionOf s .keys) ⌝ }
 {
     key_from(s, role != connection::CLIENT)
 }
@@ -134,7 +149,7 @@ pub fn session_id(message: &[u8]) -> u64
     h.session_id
 }
 
-// Seals the message in place: 1, 2, 3, 6, 7, 8, 11 to 16, 17. Refused, the message is as it was.
+// Seals the message in place: 1, 2, 3, 6, 7, 8, 35, 11 to 16, 17. Refused, the message is as it was.
 pub fn seal_record(s: Session, c: Connection, id: u64, message: &mut [u8]) -> Answer
     ensures { λ r. ⌜ SealsWith (sessionOf s) (connectionOf c) id (now (message .entry)) (now (message .exit)) (answerOf r) ⌝ }
 {
@@ -144,8 +159,9 @@ pub fn seal_record(s: Session, c: Connection, id: u64, message: &mut [u8]) -> An
     if first != 0 {
         return Answer::Refused(first);
     }
+    let bytes = key_bytes(s);
     let key = sealing_key(s, role);
-    let sealed = transform::seal_under(c, &key, s.counter, id, message);
+    let sealed = transform::seal_under(c, &key[..bytes], s.counter, id, message);
     let out = sealed.answer;
     out
 }
@@ -160,7 +176,7 @@ pub fn counter_moves(a: Answer) -> u64
     }
 }
 
-// Opens the message in place: 1 to 16. Refused, the message is as it was.
+// Opens the message in place: 1 to 16, 29 after 5 and 35 after 8. Refused, the message is as it was.
 pub fn open_record(s: Session, c: Connection, message: &mut [u8]) -> Answer
     ensures { λ r. ⌜ OpensWith (sessionOf s) (connectionOf c) (now (message .entry)) (now (message .exit)) (answerOf r) ⌝ }
 {
@@ -172,8 +188,9 @@ pub fn open_record(s: Session, c: Connection, message: &mut [u8]) -> Answer
     if first != 0 {
         return Answer::Refused(first);
     }
+    let bytes = key_bytes(s);
     let key = opening_key(s, role);
-    transform::open_under(c, &key, h.session_id, message)
+    transform::open_under(c, &key[..bytes], h.session_id, message)
 }
 
 // Adds: 40, 18 to 22. `there` is the record of the id, `old` the one at the first free place, which `room` says there is.
@@ -188,16 +205,16 @@ pub fn add_record(
     ensures { λ r. ⌜ AddsWith (addingOf a (now (chain .entry)) (now (material .entry))) (flag (there .used)) room old (r .number) (r .session) ⌝ }
 {
     let taken = there.used != 0;
-    let mut place = [0u8; 64];
-    let first = keys::derive(a.dialect, material, chain, &mut place);
-    let n = lines::place_number(first, a.id, taken, room);
+    let line20 = lines::place_number(a.id, taken, room);
+    let line18 = keys::material_number(a.dialect, a.cipher, material, line20);
+    let n = refuse(40, !(chain.len() == 64), line18);
     if n != 0 {
         return Changed {
             number: n,
             session: old,
         };
     }
-    let s = new::fresh(a, place);
+    let s = new::fresh(a, keys::derived(a.dialect, a.cipher, chain, material));
     Changed {
         number: n,
         session: s,

@@ -1,33 +1,36 @@
 // Adding: the record out of the derived keys.
 use crate::Adding;
 use crate::Session;
+use keys::Keys;
 ghost use mathlib.Core.Path.{_≡_};
 ghost use mathlib.Core.Bool.{cond};
 ghost use Rattle.protocol.specs.SessionTable.{zeroKey};
-ghost use Rattle.session_record.specs.Reading.{stored};
 ghost use Rattle.session_record.specs.Adds.{recordWith};
 
 // A guest or anonymous record holds zero in the place of a cipher key.
-fn held(bare: bool, key: [u8; 16]) -> [u8; 16]
-    ensures { λ r. ⌜ r ≡ cond bare zeroKey key ⌝ }
+fn held(bare: bool, key: [u8; 32]) -> [u8; 32]
+    ensures { λ r. ⌜ r ≡ cond bare (zeroKey 32) key ⌝ }
 {
-    let none = [0u8; 16];
+    let none = [0u8; 32];
     if bare {
         return none;
     }
     key
 }
 
-// The new record, out of the four keys in their order.
-pub fn fresh(a: Adding, keys: [u8; 64]) -> Session
-    ensures { λ r. ⌜ r ≡ stored (recordWith a keys) ⌝ }
+// The new record, out of the four keys.
+pub fn fresh(a: Adding, k: Keys) -> Session
+    ensures { λ r. ⌜ r ≡ recordWith a k ⌝ }
 {
-    let spare = [0u8; 5];
+    let spare = [0u8; 4];
     let bare = a.guest | a.anonymous;
-    let signing = arrays::bytes_16(&keys, 0);
-    let application = arrays::bytes_16(&keys, 16);
-    let first = held(bare, arrays::bytes_16(&keys, 32));
-    let second = held(bare, arrays::bytes_16(&keys, 48));
+    let wide = connection::is_wide(a.dialect, a.cipher);
+    let signing = k.signing;
+    let application = k.application;
+    let to_server = k.client_to_server;
+    let to_client = k.server_to_client;
+    let first = held(bare, to_server);
+    let second = held(bare, to_client);
     Session {
         id: a.id,
         counter: 0,
@@ -38,6 +41,7 @@ pub fn fresh(a: Adding, keys: [u8; 64]) -> Session
         used: 1,
         guest: connection::bit(a.guest),
         anonymous: connection::bit(a.anonymous),
+        wide: connection::bit(wide),
         spare: spare,
     }
 }

@@ -29,11 +29,12 @@ use Rattle.protocol.proofs.AnswerLaws.{when-part, when-two}
 use Rattle.protocol.proofs.CallLaws.{makes-when, lines-refused, lines-done, number-lines}
 use Rattle.protocol.proofs.Judging.{judge-done}
 use Rattle.transform_header.proofs.HeaderIn.{header-there}
-use Rattle.connection.specs.Reading.{flag, bitOf}
+use Rattle.connection.specs.Reading.{flag}
 use Rattle.session_record.specs.declared.Session.{Session}
 use Rattle.session_record.specs.declared.Adding.{Adding}
 use Rattle.session_record.specs.declared.Changed.{Changed}
 use Rattle.session_record.specs.Reading.{free, isWanted, sessionOf, stored, stepped}
+use Rattle.session_record.proofs.StoredLaws.{free-read, new-read}
 use Rattle.session_record.specs.Adds.{addingOf, AddsWith}
 use Rattle.session_record.specs.Contracts.{SealsWith, counterMoves, OpensWith, namedId, removedOf}
 use Rattle.session_table.specs.Place.{first, placeOf, freePlace}
@@ -44,31 +45,16 @@ use Rattle.session_table.proofs.StepLaws.{step-none, step-one, steps-al
 
 -- ---- the table of the rules, from the table of the code
 
-stored-read : (s : protocol.Session) → sessionOf (stored s) ≡ s
-stored-read s =
-    λ j. record {
-      used = bit (s .used) j;
-      id = s .id;
-      guest = bit (s .guest) j;
-      anonymous = bit (s .anonymous) j;
-      keys = s .keys;
-      counter = s .counter;
-    }
-  where
-    bit : (b : Bool) → flag (bitOf b) ≡ b
-    bit true = refl
-    bit false = refl
-
 reads-changed : (c : Call) (m : Bytes) (t : List Session) → tableOf (changed c t) ≡ (effect suite c (messageAndTable m (tableOf t))) .table
 unfolding changed effect
 reads-changed (adding a) m t =
     sym (fills (stored (protocol.newRecord kdf a)) t)
-    ∙ ap (λ (s : protocol.Session). protocol.fillFree s (tableOf t)) (stored-read (protocol.newRecord kdf a))
-reads-changed (removing id) m t = sym (changes (λ s. protocol.freeRecord) id t free refl)
+    ∙ ap (λ (s : protocol.Session). protocol.fillFree s (tableOf t)) (new-read a)
+reads-changed (removing id) m t = sym (changes (λ s. protocol.freeRecord) id t free free-read)
 reads-changed (stepping id by) m t = sym (changes (protocol.counterStep by) id t _ (steps-alike by _))
 reads-changed (sealing c id) m t = sym (changes protocol.countUp id t _ refl)
 reads-changed (opening c) m t = refl
-reads-changed (derivation dialect chain material) m t = refl
+reads-changed (derivation dialect cipher chain material) m t = refl
 reads-changed (folding kind v) m t = refl
 reads-changed (foldBeginning v) m t = refl
 reads-changed (foldPiece p) m t = refl

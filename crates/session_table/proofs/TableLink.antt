@@ -13,13 +13,14 @@ use lib.Dec.{ltb, isLe}
 use Rattle.session_record.specs.declared.Session.{Session}
 use Rattle.connection.specs.Reading.{flag}
 use Rattle.session_record.specs.Reading.{free, isWanted, sessionOf}
+use Rattle.session_record.proofs.StoredLaws.{free-read}
 use Rattle.session_table.specs.Place.{first, placeOf, freePlace}
 use Rattle.protocol.specs.SessionTable as model
 use Rattle.session_table.specs.Reading.{tableOf}
 
 pub reads : (id : ℕ) (t : List Session) → model.recordOf id (tableOf t) ≡ sessionOf (getD t (placeOf id t) free)
 unfolding first
-reads id [] = refl
+reads id [] = sym free-read
 reads id (x ∷ xs) = go (isWanted true id x) (reads id xs)
   where
     go : (b : Bool) → model.recordOf id (tableOf xs) ≡ sessionOf (getD xs (placeOf id xs) free)

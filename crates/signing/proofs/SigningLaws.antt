@@ -17,7 +17,7 @@ use Rattle.protocol.specs.Connection.{longestMessage}
 use Rattle.protocol.specs.InnerHeader.{isInnerHeader}
 use Rattle.protocol.specs.Refusals.{notSigned, badSignature}
 use Rattle.protocol.specs.Signing.{isSigned, withSignedFlag, withSignature, signatureUnder, signedUnder}
-use Rattle.protocol.specs.Calls.{signingUnder, verifyingUnder, onlyMessage, keyTests, signTests, verifyTests, tests, effect, answer}
+use Rattle.protocol.specs.Calls.{signingUnder, verifyingUnder, onlyMessage, signingKeyTests, signTests, verifyTests, tests, effect, answer}
 use Rattle.protocol.specs.Contract.{Returns}
 use Rattle.protocol.specs.Suite.{suite, cmac}
 use Rattle.protocol.proofs.CallLaws.{lines-return, lines-return-done, number-lines}
@@ -39,13 +39,13 @@ pub first-is : (key m : Bytes) (begins : Bool) (limit n12 n11 n3 n40 : ℕ) → 
     → n12 ≡ cond (not begins) 12 0
     → n11 ≡ cond (ltb (length m) 64) 11 n12
     → n3 ≡ cond (ltb limit (length m)) 3 n11
-    → n40 ≡ firstElse (keyTests key) n3
+    → n40 ≡ firstElse (signingKeyTests key) n3
     → n40 ≡ firstOf (signTests key m)
 first-is key m begins limit n12 n11 n3 n40 eb el e12 e11 e3 e40 =
     let line12 : n12 ≡ cond (not (isInnerHeader m 0)) 12 0 = e12 ∙ ap (λ (b : Bool). cond (not b) 12 0) eb in
     let line11 = e11 ∙ ap (cond (ltb (length m) 64) 11) line12 in
     let line3 = e3 ∙ ap₂ (λ (l n : ℕ). cond (ltb l (length m)) 3 n) el line11 in
-    e40 ∙ ap (firstElse (keyTests key)) line3
+    e40 ∙ ap (firstElse (signingKeyTests key)) line3
 
 -- once the first tests have passed
 pub record Passed (key m : Bytes) : Type 0 where

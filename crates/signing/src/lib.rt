@@ -21,7 +21,7 @@ fn refusal(key: &[u8], m: &[u8]) -> u32
     let line12 = refuse(12, !protocol_id::begins(m, 0, 0xFE), 0);
     let line11 = refuse(11, m.len() < 64, line12);
     let line3 = refuse(3, connection::longest_message() < m.len(), line11);
-    refusals::key_number(key, line3)
+    refusals::signing_key_number(key, line3)
 }
 
 // SMB2_FLAGS_SIGNED is set.

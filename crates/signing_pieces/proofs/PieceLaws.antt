@@ -7,13 +7,12 @@ use Prim.Native.Nat.{ℕ, _+_, _≤_, _<_}
 use native.Mathlib.Omega.{arith}
 use lib.ListN.{length, take, replicate, length-append}
 use lib.Seq.{paste, take-length, take-all, take-at, take-append-le, take-paste, length-paste}
-use Rattle.aes.specs.KeyExpansion.{keyExpansion}
-use Rattle.aes.specs.BlockCipher.{blockCipher}
+use Rattle.aes.specs.BlockCipher.{blockCipher, expandedKey}
 use Rattle.cmac.specs.declared.Mac.{Mac}
 use Rattle.cmac.specs.Cmac as rfc4493
 use Rattle.cmac.specs.Running as code
 use Rattle.protocol.specs.Bytes.{Bytes}
-use Rattle.protocol.specs.Ciphers.{aes128}
+use Rattle.protocol.specs.Ciphers.{aes}
 use Rattle.protocol.specs.Signing.{withSignedFlag, withSignature, signatureUnder}
 use Rattle.protocol.specs.Pieces.{Underway, withPiece}
 use Rattle.protocol.specs.SigningPieces.{signatureOf}
@@ -49,7 +48,7 @@ module _ (u : Underway) (b : u .begun ≡ true) (p : Bytes) where
       made = record { key = s .key; header = header; code = mac; length = s .length + length p; begun = s .begun }
 
       stands : take (length (u .joined ++ p)) header ≡ take 64 (u .joined ++ p)
-          → (64 ≤ length (u .joined ++ p) → code.Holds mac (aes128 (u .start)) (covered (u .joined ++ p)))
+          → (64 ≤ length (u .joined ++ p) → code.Holds mac (aes (u .start)) (covered (u .joined ++ p)))
           → StandsFor made (withPiece p u)
       unfolding withPiece
       stands f k =
@@ -62,15 +61,15 @@ module _ (u : Underway) (b : u .begun ≡ true) (p : Bytes) where
 
     module _ (size : length (s .header) ≡ 64) where
       -- behind the header
-      pub after-header : 64 ≤ s .length → (mac : Mac) (keys : List (List ℕ)) → keys ≡ keyExpansion 4 10 (s .key)
+      pub after-header : 64 ≤ s .length → (mac : Mac) (keys : List (List ℕ)) → keys ≡ expandedKey (s .key)
           → ((m : Bytes) → code.Holds (s .code) (blockCipher keys) m → code.Holds mac (blockCipher keys) (m ++ p))
           → StandsFor (made (s .header) mac) (withPiece p u)
       after-header long mac keys ek taken =
           let c = h .count in
           let l : 64 ≤ at = omega arith in
           let t = total in
-          let same : keys ≡ keyExpansion 4 10 (u .start) = ek ∙ ap (keyExpansion 4 10) (its .its-key) in
-          let taken′ : ((m : Bytes) → code.Holds (s .code) (aes128 (u .start)) m → code.Holds mac (aes128 (u .start)) (m ++ p)) = rw same at taken in
+          let same : keys ≡ expandedKey (u .start) = ek ∙ ap expandedKey (its .its-key) in
+          let taken′ : ((m : Bytes) → code.Holds (s .code) (aes (u .start)) m → code.Holds mac (aes (u .start)) (m ++ p)) = rw same at taken in
           stands (s .header) mac
           (take-all (length (u .joined ++ p)) (s .header) (omega arith)
           ∙ sym (take-all at (s .header) (omega arith))
@@ -119,11 +118,11 @@ module _ (u : Underway) (b : u .begun ≡ true) (p : Bytes) where
           all-is : u .joined ++ p ≡ (u .joined ++ a) ++ rest
           all-is = ap (λ (x : Bytes). u .joined ++ x) (sym cut) ∙ sym (append-assoc (u .joined) a rest)
 
-          pub now-whole : (mac : Mac) (keys : List (List ℕ)) → keys ≡ keyExpansion 4 10 (s .key)
+          pub now-whole : (mac : Mac) (keys : List (List ℕ)) → keys ≡ expandedKey (s .key)
               → code.Holds mac (blockCipher keys) (covered header ++ rest)
               → StandsFor (made header mac) (withPiece p u)
           now-whole mac keys ek taken =
-              let same : keys ≡ keyExpansion 4 10 (u .start) = ek ∙ ap (keyExpansion 4 10) (its .its-key) in
+              let same : keys ≡ expandedKey (u .start) = ek ∙ ap expandedKey (its .its-key) in
               let l = whole in
               let la = length-append (u .joined ++ a) rest in
               let lp : length (u .joined ++ p) ≡ length ((u .joined ++ a) ++ rest) = ap length all-is in
@@ -132,7 +131,7 @@ module _ (u : Underway) (b : u .begun ≡ true) (p : Bytes) where
               ap (λ (x : Bytes). covered x ++ rest) header-is
               ∙ sym (covered-append (u .joined ++ a) rest (omega arith))
               ∙ ap covered (sym all-is) in
-              let held : code.Holds mac (aes128 (u .start)) (covered header ++ rest) = rw same at taken in
+              let held : code.Holds mac (aes (u .start)) (covered header ++ rest) = rw same at taken in
               stands header mac
               (take-all (length (u .joined ++ p)) header (omega arith)
               ∙ header-is
@@ -142,12 +141,12 @@ module _ (u : Underway) (b : u .begun ≡ true) (p : Bytes) where
 
 -- the end
 pub finished : (u : Underway) (s : SignState) (h : StandsFor s u) → 64 ≤ length (u .joined) → (r : Bytes) (keys : List (List ℕ))
-    → keys ≡ keyExpansion 4 10 (s .key)
+    → keys ≡ expandedKey (s .key)
     → ((m : Bytes) → code.Holds (s .code) (blockCipher keys) m → r ≡ rfc4493.cmac (blockCipher keys) m)
     → r ≡ signatureOf cmac u
 unfolding signatureOf signatureUnder covered
 finished u s h l r keys ek f =
     let way = h .under-way (long-begun s u h l) in
-    let same : keys ≡ keyExpansion 4 10 (u .start) = ek ∙ ap (keyExpansion 4 10) (way .its-key) in
-    let f′ : ((m : Bytes) → code.Holds (s .code) (aes128 (u .start)) m → r ≡ rfc4493.cmac (aes128 (u .start)) m) = rw same at f in
+    let same : keys ≡ expandedKey (u .start) = ek ∙ ap expandedKey (way .its-key) in
+    let f′ : ((m : Bytes) → code.Holds (s .code) (aes (u .start)) m → r ≡ rfc4493.cmac (aes (u .start)) m) = rw same at f in
     f′ (covered (u .joined)) (way .chained l) ∙ sym (cmac-is (u .start) (covered (u .joined)))

@@ -23,7 +23,7 @@ use Rattle.protocol.specs.Signing.{isSigned, withSignedFlag, signatureUnder}
 use Rattle.protocol.specs.Pieces.{Underway, begunFrom, notBegun, pieceFits, withPiece}
 use Rattle.protocol.specs.SigningPieces.{signatureOf}
 use Rattle.protocol.specs.Calls.{signBeginning, signPiece, signFinishing, verifyFinishing, onlyUnderway, onlySignature, withUnderway}
-use Rattle.protocol.specs.Calls.{keyTests, joinedTests, signFinishTests, verifyFinishTests, tests, effect, answer, left}
+use Rattle.protocol.specs.Calls.{signingKeyTests, joinedTests, signFinishTests, verifyFinishTests, tests, effect, answer, left}
 use Rattle.protocol.specs.Contract.{Returns}
 use Rattle.protocol.specs.Suite.{suite, cmac}
 use Rattle.protocol.proofs.CallLaws.{lines-return, lines-return-done, number-lines}
@@ -51,7 +51,7 @@ begin-left key b e =
 
 begin-number : (key : Bytes) → answerNumber (answer suite (signBeginning key) (onlyUnderway notBegun)) ≡ cond (not (eqb (length key) 16)) 40 0
 unfolding tests
-begin-number key = number-lines (keyTests key) 0
+begin-number key = number-lines (signingKeyTests key) 0
 
 pub ends : (none header : Bytes) (mac : Mac) → StandsFor (record { key = none; header = header; code = mac; length = 0; begun = 0 }) notBegun
 ends none header mac =

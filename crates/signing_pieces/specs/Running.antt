@@ -8,7 +8,7 @@ use lib.Dec.{eqb, ltb, leb}
 use lib.ListN.{length, take, replicate}
 use Rattle.cmac.specs.Running as code
 use Rattle.protocol.specs.Bytes.{Bytes}
-use Rattle.protocol.specs.Ciphers.{aes128}
+use Rattle.protocol.specs.Ciphers.{aes}
 use Rattle.protocol.specs.Connection.{longestMessage}
 use Rattle.protocol.specs.InnerHeader.{isInnerHeader}
 use Rattle.protocol.specs.Signing.{withSignedFlag, withSignature}
@@ -35,7 +35,7 @@ covered m = withSignature (replicate 16 0) (withSignedFlag m)
 pub record UnderWay (s : SignState) (key joined : Bytes) : Type 0 where
   pub its-key : s .key ≡ key
   pub front : take (length joined) (s .header) ≡ take 64 joined
-  pub chained : 64 ≤ length joined → code.Holds (s .code) (aes128 key) (covered joined)
+  pub chained : 64 ≤ length joined → code.Holds (s .code) (aes key) (covered joined)
 
 -- a state that is all zero stands for no message
 pub record StandsFor (s : SignState) (u : Underway) : Type 0 where

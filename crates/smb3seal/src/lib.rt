@@ -15,13 +15,14 @@ ghost use Rattle.smb3seal.specs.Exports.{Reports};
 #[no_mangle]
 pub extern "C" fn smb3seal_derive(
     dialect: u16,
+    cipher: u16,
     material: &[u8],
     chain: &[u8],
     keys: &mut [u8],
 ) -> u32
-    ensures { λ r. ⌜ Returns (derivation dialect (now (chain .entry)) (now (material .entry))) (onlyKeys (now (keys .entry))) r (onlyKeys (now (keys .exit))) ⌝ }
+    ensures { λ r. ⌜ Returns (derivation dialect cipher (now (chain .entry)) (now (material .entry))) (onlyKeys (now (keys .entry))) r (onlyKeys (now (keys .exit))) ⌝ }
 {
-    keys::derive(dialect, material, chain, keys)
+    keys::derive(dialect, cipher, material, chain, keys)
 }
 
 // Folds a negotiate message or a session setup request.

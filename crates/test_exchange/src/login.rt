@@ -112,9 +112,10 @@ pub fn both_fold(line: &[u8]) -> Login {
     }
 }
 
-pub fn adding(id: u64) -> Adding {
+pub fn adding(l: Login, id: u64) -> Adding {
     Adding {
         dialect: 0x0311,
+        cipher: l.cipher,
         id: id,
         guest: false,
         anonymous: false,
@@ -143,6 +144,11 @@ pub fn server(l: Login) -> Connection {
     }
 }
 
+// A cipher key of 16 bytes, without the zeros behind it.
+fn show_cipher_key(key: [u8; 32]) {
+    test_lines::show_16(arrays::bytes_16(&key, 0));
+}
+
 // The four keys of a record.
 fn keys(what: &[u8], t: Table, id: u64) {
     let s = table_by_value::lookup_in(t, id);
@@ -155,9 +161,9 @@ fn keys(what: &[u8], t: Table, id: u64) {
     test_lines::space();
     test_lines::show_16(application);
     test_lines::space();
-    test_lines::show_16(client_to_server);
+    show_cipher_key(client_to_server);
     test_lines::space();
-    test_lines::show_16(server_to_client);
+    show_cipher_key(server_to_client);
     test_lines::end_line();
 }
 
@@ -178,8 +184,8 @@ fn server_adds(what: &[u8], l: Login, from: Table, a: Adding) -> Table {
 // Both ends add the session.
 pub fn both_add(l: Login) -> Ends {
     let none = table_by_value::empty();
-    let client = client_adds(b"client adds", l, none, adding(l.id));
-    let server = server_adds(b"server adds", l, none, adding(l.id));
+    let client = client_adds(b"client adds", l, none, adding(l, l.id));
+    let server = server_adds(b"server adds", l, none, adding(l, l.id));
     keys(b"client's keys", client, l.id);
     keys(b"server's keys", server, l.id);
     Ends {

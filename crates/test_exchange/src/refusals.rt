@@ -71,9 +71,10 @@ pub fn own_direction(l: Login, e: Ends) -> Ends {
     }
 }
 
-fn bare(id: u64, guest: bool, anonymous: bool) -> Adding {
+fn bare(l: Login, id: u64, guest: bool, anonymous: bool) -> Adding {
     Adding {
         dialect: 0x0311,
+        cipher: l.cipher,
         id: id,
         guest: guest,
         anonymous: anonymous,
@@ -92,7 +93,7 @@ fn at_client(seals: &[u8], opens: &[u8], from: Table, c: Connection, id: u64, nu
 // 8: the client has a guest's session, 2.
 pub fn guest(l: Login, from: Table) -> Table {
     let c = login::client(l);
-    let t1 = login::client_adds(b"client adds 2, guest", l, from, bare(2, true, false));
+    let t1 = login::client_adds(b"client adds 2, guest", l, from, bare(l, 2, true, false));
     at_client(
         b"client seals for 2",
         b"client opens a message for 2",
@@ -106,7 +107,12 @@ pub fn guest(l: Login, from: Table) -> Table {
 // 8: and an anonymous one, 3.
 pub fn anonymous(l: Login, from: Table) -> Table {
     let c = login::client(l);
-    let t1 = login::client_adds(b"client adds 3, anonymous", l, from, bare(3, false, true));
+    let t1 = login::client_adds(
+        b"client adds 3, anonymous",
+        l,
+        from,
+        bare(l, 3, false, true),
+    );
     at_client(
         b"client seals for 3",
         b"client opens a message for 3",

@@ -36,7 +36,7 @@ fn no_key(what: &[u8], l: Login, from: Table, a: Adding) -> Table {
 
 // 40, 18, 19, 20, 21: each comes before those that stand after it.
 pub fn adding_refused(l: Login, from: Table) -> Table {
-    let zero = login::adding(0);
+    let zero = login::adding(l, 0);
     let old = other_dialect(zero);
     let t1 = short_chain_no_key(
         b"client adds 0, chain short, dialect 2.1, no key",
@@ -46,14 +46,19 @@ pub fn adding_refused(l: Login, from: Table) -> Table {
     let t2 = no_key(b"client adds 0, dialect 2.1, no key", l, t1, old);
     let t3 = no_key(b"client adds 0, no key", l, t2, zero);
     let t4 = login::client_adds(b"client adds 0", l, t3, zero);
-    login::client_adds(b"client adds the session again", l, t4, login::adding(l.id))
+    login::client_adds(
+        b"client adds the session again",
+        l,
+        t4,
+        login::adding(l, l.id),
+    )
 }
 
 // The sessions 4 to 16: as many as the table has records left.
 fn filled(l: Login, from: Table) -> Table {
     let mut t = from;
     for id in 4..17 {
-        let next = login::client_adds(b"client adds another", l, t, login::adding(id));
+        let next = login::client_adds(b"client adds another", l, t, login::adding(l, id));
         t = next;
     }
     t
@@ -62,8 +67,13 @@ fn filled(l: Login, from: Table) -> Table {
 // 22: all records are used. 21 comes before it.
 pub fn full(l: Login, from: Table) -> Table {
     let t1 = filled(l, from);
-    let t2 = login::client_adds(b"client adds 17, no free record", l, t1, login::adding(17));
-    login::client_adds(b"client adds 4, no free record", l, t2, login::adding(4))
+    let t2 = login::client_adds(
+        b"client adds 17, no free record",
+        l,
+        t1,
+        login::adding(l, 17),
+    );
+    login::client_adds(b"client adds 4, no free record", l, t2, login::adding(l, 4))
 }
 
 // 6: the client has taken the session out.
@@ -95,7 +105,7 @@ pub fn added_again(l: Login, e: Ends) -> Ends {
         b"client adds the session again",
         l,
         client,
-        login::adding(l.id),
+        login::adding(l, l.id),
     );
     counter(t1, l.id);
     let t2 = calls::across(b"client seals", b"server opens", t1, c, server, s, l.id, m1);

@@ -12,7 +12,7 @@ use lib.Dec.{eqb, ltb}
 use lib.ListN.{length}
 use lib.Seq.{paste, take-all}
 use Rattle.octets.proofs.BoolLaws.{and-true}
-use Rattle.aes.specs.KeyExpansion.{keyExpansion}
+use Rattle.aes.specs.KeySizes.{isKeyLength}
 use Rattle.octets.specs.Maybe.{isSome}
 use Rattle.octets.specs.Numbers.{bytesAt}
 use Rattle.octets.proofs.Paste.{paste-all}
@@ -21,10 +21,6 @@ use Rattle.test_primitives.specs.Exports.{Writes, Seals, Opens, bit, ctr
 -- an array read off a slice of its length is the slice
 pub whole : (n : ℕ) (b r : List ℕ) → length b ≡ n → r ≡ bytesAt 0 n b → r ≡ b
 whole n b r h e = e ∙ take-all n b (le-of-eq h)
-
--- and the key expanded from it
-pub expanded : (key k : List ℕ) (keys : List (List ℕ)) → length key ≡ 16 → k ≡ bytesAt 0 16 key → keys ≡ keyExpansion 4 10 k → keys ≡ keyExpansion 4 10 key
-expanded key k keys h ek e = e ∙ ap (keyExpansion 4 10) (whole 16 key k h ek)
 
 -- a place that a value fills whole
 pub filled : (d v d′ : List ℕ) → length d ≡ length v → d′ ≡ paste d 0 v (length v) → d′ ≡ v
@@ -75,17 +71,17 @@ five a b c d f e =
     (t .0, t .1, t .2, q .1, p .1)
 
 module _ (key nonce text : List ℕ) where
-  pub ctr-sized : ctrFits key nonce text ≡ true → (length key ≡ 16) × (length nonce ≡ 12) × (length text < 2 ^ 32 - 2 ^ 17)
+  pub ctr-sized : ctrFits key nonce text ≡ true → (isKeyLength (length key) ≡ true) × (length nonce ≡ 12) × (length text < 2 ^ 32 - 2 ^ 17)
   ctr-sized e =
-      let p = three (eqb (length key) 16) (eqb (length nonce) 12) (ltb (length text) (2 ^ 32 - 2 ^ 17)) e in
-      (eqb-true (length key) 16 (p .0), eqb-true (length nonce) 12 (p .1), ltb-true (length text) (2 ^ 32 - 2 ^ 17) (p .2))
+      let p = three (isKeyLength (length key)) (eqb (length nonce) 12) (ltb (length text) (2 ^ 32 - 2 ^ 17)) e in
+      (p .0, eqb-true (length nonce) 12 (p .1), ltb-true (length text) (2 ^ 32 - 2 ^ 17) (p .2))
 
   module _ (aad tag : List ℕ) where
     pub ccm-sized : ccmFits key nonce aad tag text ≡ true
-        → (length key ≡ 16) × (length nonce ≡ 11) × (length aad ≡ 32) × (length tag ≡ 16) × (length text < 2 ^ 32 - 16)
+        → (isKeyLength (length key) ≡ true) × (length nonce ≡ 11) × (length aad ≡ 32) × (length tag ≡ 16) × (length text < 2 ^ 32 - 16)
     ccm-sized e =
-        let p = five (eqb (length key) 16) (eqb (length nonce) 11) (eqb (length aad) 32) (eqb (length tag) 16) (ltb (length text) (2 ^ 32 - 16)) e in (
-          eqb-true (length key) 16 (p .0),
+        let p = five (isKeyLength (length key)) (eqb (length nonce) 11) (eqb (length aad) 32) (eqb (length tag) 16) (ltb (length text) (2 ^ 32 - 16)) e in (
+          p .0,
           eqb-true (length nonce) 11 (p .1),
           eqb-true (length aad) 32 (p .2),
           eqb-true (length tag) 16 (p .3),
@@ -93,11 +89,11 @@ module _ (key nonce text : List ℕ) where
         )
 
     pub gcm-sized : gcmFits key nonce aad tag text ≡ true
-        → (length key ≡ 16) × (length nonce ≡ 12) × (length aad < 2 ^ 32 - 16) × (length tag ≡ 16) × (length text < 2 ^ 32 - 16)
+        → (isKeyLength (length key) ≡ true) × (length nonce ≡ 12) × (length aad < 2 ^ 32 - 16) × (length tag ≡ 16) × (length text < 2 ^ 32 - 16)
     gcm-sized e =
-        let p = five (eqb (length key) 16) (eqb (length nonce) 12) (ltb (length aad) (2 ^ 32 - 16)) (eqb (length tag) 16)
+        let p = five (isKeyLength (length key)) (eqb (length nonce) 12) (ltb (length aad) (2 ^ 32 - 16)) (eqb (length tag) 16)
         (ltb (length text) (2 ^ 32 - 16)) e in (
-          eqb-true (length key) 16 (p .0),
+          p .0,
           eqb-true (length nonce) 12 (p .1),
           ltb-true (length aad) (2 ^ 32 - 16) (p .2),
           eqb-true (length tag) 16 (p .3),

@@ -8,13 +8,13 @@ use mathlib.Core.Path.{_≡_}
 use Prim.Native.Nat.{ℕ, _^_, _-_}
 use lib.Dec.{eqb, ltb}
 use lib.ListN.{length}
-use Rattle.aes.specs.KeyExpansion.{keyExpansion}
-use Rattle.ctr.specs.BlockCipher.{blockCipher}
+use Rattle.aes.specs.BlockCipher.{blockCipher, expandedKey}
+use Rattle.aes.specs.KeySizes.{isKeyLength}
 use Rattle.octets.specs.Maybe.{isSome}
 
--- AES under a key of 16 bytes
-abbrev pub aes128 : List ℕ → List ℕ → List ℕ
-aes128 key = blockCipher (keyExpansion 4 10 key)
+-- AES under a key
+abbrev pub aes : List ℕ → List ℕ → List ℕ
+aes key = blockCipher (expandedKey key)
 
 -- out becomes `value` if `fits`
 pub record Writes (fits : Bool) (value out out′ : List ℕ) (r : ℕ) : Type 0 where
@@ -39,12 +39,12 @@ pub record Opens (fits : Bool) (decrypted : Option (List ℕ)) (text text′ : L
 
 -- the lengths that counter mode asks for: the key's, the prefix's and the text's
 abbrev pub ctrFits : List ℕ → List ℕ → List ℕ → Bool
-ctrFits key prefix text = eqb (length key) 16 && eqb (length prefix) 12 && ltb (length text) (2 ^ 32 - 2 ^ 17)
+ctrFits key prefix text = isKeyLength (length key) && eqb (length prefix) 12 && ltb (length text) (2 ^ 32 - 2 ^ 17)
 
 -- the lengths that CCM asks for
 abbrev pub ccmFits : List ℕ → List ℕ → List ℕ → List ℕ → List ℕ → Bool
 ccmFits key nonce aad tag text =
-    eqb (length key) 16 && eqb (length nonce) 11 && eqb (length aad) 32 && eqb (length tag) 16 && ltb (length text) (2 ^ 32 - 16)
+    isKeyLength (length key) && eqb (length nonce) 11 && eqb (length aad) 32 && eqb (length tag) 16 && ltb (length text) (2 ^ 32 - 16)
 
 -- the lengths that CMAC asks for: the key's and the place's
 abbrev pub cmacFits : List ℕ → List ℕ → Bool
@@ -53,4 +53,4 @@ cmacFits key code = eqb (length key) 16 && eqb (length code) 16
 -- the lengths that GCM asks for
 abbrev pub gcmFits : List ℕ → List ℕ → List ℕ → List ℕ → List ℕ → Bool
 gcmFits key nonce aad tag text =
-    eqb (length key) 16 && eqb (length nonce) 12 && ltb (length aad) (2 ^ 32 - 16) && eqb (length tag) 16 && ltb (length text) (2 ^ 32 - 16)
+    isKeyLength (length key) && eqb (length nonce) 12 && ltb (length aad) (2 ^ 32 - 16) && eqb (length tag) 16 && ltb (length text) (2 ^ 32 - 16)

@@ -55,3 +55,17 @@ pub extern "C" fn primitives_kdf(
     let value = kdf::derive_16(key, label, context);
     put(&value, derived)
 }
+
+// A key of 32 bytes.
+#[no_mangle]
+pub extern "C" fn primitives_kdf_32(
+    key: &[u8],
+    label: &[u8],
+    context: &[u8],
+    derived: &mut [u8],
+) -> u32
+    ensures { λ r. ⌜ Writes (eqb (length (now (derived .entry))) 32) (deriveSha256 32 (now (key .entry)) (now (label .entry)) (now (context .entry))) (now (derived .entry)) (now (derived .exit)) r ⌝ }
+{
+    let value = kdf::derive_32(key, label, context);
+    put(&value, derived)
+}

@@ -73,19 +73,28 @@ pub fn hmac(line: &[u8]) {
     test_lines::end_line();
 }
 
-// kdf KEY LABEL CONTEXT: the 16 bytes derived.
-pub fn kdf(line: &[u8]) {
+// kdf KEY LABEL CONTEXT: the 16 bytes derived; kdf-256: the 32 bytes.
+pub fn kdf(line: &[u8], wide: bool) {
     let mut key = [0u8; 64];
     let k = test_lines::bytes(line, test_lines::after_space(line, 0), &mut key);
     let mut label = [0u8; 64];
     let l = test_lines::bytes(line, k.next, &mut label);
     let mut context = [0u8; 64];
     let c = test_lines::bytes(line, l.next, &mut context);
-    let derived = kdf::derive_16(
+    show_derived(
         test_lines::prefix(&key, k.len),
         test_lines::prefix(&label, l.len),
         test_lines::prefix(&context, c.len),
+        wide,
     );
-    test_lines::show_16(derived);
     test_lines::end_line();
+}
+
+fn show_derived(key: &[u8], label: &[u8], context: &[u8], wide: bool) {
+    if wide {
+        let derived = kdf::derive_32(key, label, context);
+        test_lines::show(&derived);
+    } else {
+        test_lines::show_16(kdf::derive_16(key, label, context));
+    }
 }

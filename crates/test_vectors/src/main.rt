@@ -42,11 +42,15 @@ fn run(line: &[u8]) {
     } else if test_lines::is(line, b"hmac ") {
         hashes::hmac(line);
     } else if test_lines::is(line, b"kdf ") {
-        hashes::kdf(line);
+        hashes::kdf(line, false);
+    } else if test_lines::is(line, b"kdf-256 ") {
+        hashes::kdf(line, true);
     } else if test_lines::is(line, b"expand ") {
         block_cipher::expand(line);
     } else if test_lines::is(line, b"encrypt ") {
         block_cipher::encrypt(line);
+    } else if test_lines::is(line, b"ctr ") {
+        modes::ctr(line);
     } else if test_lines::is(line, b"ccm ") {
         modes::ccm(line);
     } else if test_lines::is(line, b"gcm ") {

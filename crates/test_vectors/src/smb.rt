@@ -37,16 +37,18 @@ pub fn fold_response(line: &[u8]) {
     test_lines::end_line();
 }
 
-// derive DIALECT MATERIAL CHAIN: the number, and the first `count` bytes of the place for the keys.
+// derive DIALECT CIPHER MATERIAL CHAIN: the number, and the first `count` bytes of the place for the keys.
 pub fn derive(line: &[u8], count: usize) {
     let dialect = test_lines::read_number(line, test_lines::after_space(line, 0));
+    let cipher = test_lines::read_number(line, dialect.next);
     let mut material = [0u8; 64];
-    let m = test_lines::bytes(line, dialect.next, &mut material);
+    let m = test_lines::bytes(line, cipher.next, &mut material);
     let mut chain = [0u8; 64];
     let c = test_lines::bytes(line, m.next, &mut chain);
     let mut keys = [0u8; 64];
     let r = smb3seal::smb3seal_derive(
         low_16(dialect.value),
+        low_16(cipher.value),
         test_lines::prefix(&material, m.len),
         test_lines::prefix(&chain, c.len),
         &mut keys,

@@ -108,17 +108,17 @@ module _ (cipher : ℕ) (key : Bytes) (e : Envelope) (m : Bytes) where
 module _ (c : Connection) (key : Bytes) (id : ℕ) (m : Bytes) where
   -- the lines before the tag
   abbrev pub linesBefore : List Test
-  linesBefore = keyTests key ++ (messageTests c m ++ (headerTests c (headerOf m) ++ (otherSession (eqb (sessionIdOf m) id) ∷ [])))
+  linesBefore = keyTests c key ++ (messageTests c m ++ (headerTests c (headerOf m) ++ (otherSession (eqb (sessionIdOf m) id) ∷ [])))
 
   -- as the code tests them, a line after the other: what a message that is too short says after 2 counts for nothing
   pub lines-chained : (h : TransformHeader) (line6 line4 line1 n : ℕ) → h ≡ headerIn m → line6 ≡ firstOf (otherSession (eqb (h .sessionId) id) ∷ [])
-      → line4 ≡ firstElse (headerTests c h) line6 → line1 ≡ firstElse (messageTests c m) line4 → n ≡ firstElse (keyTests key) line1 → n ≡ firstOf linesBefore
+      → line4 ≡ firstElse (headerTests c h) line6 → line1 ≡ firstElse (messageTests c m) line4 → n ≡ firstElse (keyTests c key) line1 → n ≡ firstOf linesBefore
   lines-chained h line6 line4 line1 n e e6 e4 e1 e40 = e40 ∙ rw (e1, e4, e6, e) (go (leb (length m) 52) refl)
     where
       later : TransformHeader → ℕ
       later h = firstElse (headerTests c h) (firstOf (otherSession (eqb (h .sessionId) id) ∷ []))
 
-      go : (b : Bool) → leb (length m) 52 ≡ b → firstElse (keyTests key) (firstElse (messageTests c m) (later (headerIn m))) ≡ firstOf linesBefore
+      go : (b : Bool) → leb (length m) 52 ≡ b → firstElse (keyTests c key) (firstElse (messageTests c m) (later (headerIn m))) ≡ firstOf linesBefore
       go true b = rw b
       go false b = rw (header-there m (leb-false (length m) 52 b))
 
@@ -131,7 +131,7 @@ module _ (c : Connection) (key : Bytes) (id : ℕ) (m : Bytes) where
       pub lines-passed : First c key m
       lines-passed =
           first-passed c key m 0
-          (sym (first-of-both (keyTests key ++ messageTests c m) (headerTests c (headerOf m) ++ (otherSession (eqb (sessionIdOf m) id) ∷ [])) (sym s ∙ z))) refl
+          (sym (first-of-both (keyTests c key ++ messageTests c m) (headerTests c (headerOf m) ++ (otherSession (eqb (sessionIdOf m) id) ∷ [])) (sym s ∙ z))) refl
 
       pub message-opens : (used : ℕ) (e : Envelope) (m′ : Bytes) (a : Answer) → used ≡ cipherUsed c → e ≡ sentBy (other (c .role)) id → OpensMessage used key e m m′ a
           → Makes (openingUnder c key id) (onlyMessage m) a (onlyMessage m′)

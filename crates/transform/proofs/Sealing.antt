@@ -70,18 +70,18 @@ module _ (c : Connection) (key : Bytes) (id k : ℕ) (m : Bytes) where
   sealed = answer suite (sealingUnder c key id) (messageAndCounter m k)
 
   -- as the code tests them, a line after the other
-  pub lines-chained : (line1 n : ℕ) → line1 ≡ firstOf (messageTests c m) → n ≡ firstElse (keyTests key) line1 → n ≡ firstOf (keyTests key ++ messageTests c m)
+  pub lines-chained : (line1 n : ℕ) → line1 ≡ firstOf (messageTests c m) → n ≡ firstElse (keyTests c key) line1 → n ≡ firstOf (keyTests c key ++ messageTests c m)
   lines-chained line1 n e1 e40 = e40 ∙ rw e1
 
-  module _ (n : ℕ) (s : n ≡ firstOf (keyTests key ++ messageTests c m)) where
+  module _ (n : ℕ) (s : n ≡ firstOf (keyTests c key ++ messageTests c m)) where
     pub lines-refuse : (n ≡ 0 → ⊥) → refused n ≡ sealed
     unfolding tests
-    lines-refuse h = sym (refuses (keyTests key ++ messageTests c m) _ n s h)
+    lines-refuse h = sym (refuses (keyTests c key ++ messageTests c m) _ n s h)
 
   module _ (f : First c key m) (a : Answer) (w : a ≡ walk (inner m) (sentBy (c .role) id)) where
     so-far : sealed ≡ judgeAfter a (counterUsedUp k ∷ [])
     unfolding tests
-    so-far = judge-passed (keyTests key ++ messageTests c m) _ (f .none) ∙ ap (λ (b : Answer). judgeAfter b (counterUsedUp k ∷ [])) (sym w)
+    so-far = judge-passed (keyTests c key ++ messageTests c m) _ (f .none) ∙ ap (λ (b : Answer). judgeAfter b (counterUsedUp k ∷ [])) (sym w)
 
     pub walk-refuses : isRefused a ≡ true → a ≡ sealed
     walk-refuses r = sym (so-far ∙ after-refused a (counterUsedUp k ∷ []) r)
@@ -102,7 +102,7 @@ module _ (c : Connection) (key : Bytes) (id k : ℕ) (m : Bytes) where
         go : (b : Answer) → b ≡ sealed → isRefused b ≡ false → First c key m
         go (done j) q s =
             first-passed c key m 0
-            (sym (none-first (keyTests key ++ messageTests c m) (judge-done (keyTests key ++ messageTests c m) _ j (sym q) .0))) refl
+            (sym (none-first (keyTests c key ++ messageTests c m) (judge-done (keyTests c key ++ messageTests c m) _ j (sym q) .0))) refl
         go (refused j) q s = absurd (let z : _≡_ {A = ℕ} 0 1 = cc in omega arith)
 
     -- no seal is done at the last counter
@@ -115,7 +115,7 @@ module _ (c : Connection) (key : Bytes) (id k : ℕ) (m : Bytes) where
         last (refused j) = refl
 
         go : (b : Answer) → walk (inner m) (sentBy (c .role) id) ≡ b → ⊥
-        go b q = true≢false (sym (ap isRefused e ∙ refused-judged (keyTests key ++ messageTests c m) _ (last (walk (inner m) (sentBy (c .role) id)))) ∙ r)
+        go b q = true≢false (sym (ap isRefused e ∙ refused-judged (keyTests c key ++ messageTests c m) _ (last (walk (inner m) (sentBy (c .role) id)))) ∙ r)
 
     pub seals : (used : ℕ) (m′ : Bytes) → used ≡ cipherUsed c → m′ ≡ sealedUnder ciphers used key k id (inner m)
         → Makes (sealingUnder c key id) (messageAndCounter m k) a (messageAndCounter m′ (k + 1))

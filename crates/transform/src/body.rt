@@ -3,8 +3,10 @@ use answer::Answer;
 use compound::Envelope;
 use transform_header::TransformHeader;
 ghost use mathlib.Core.Path.{_≡_};
+ghost use mathlib.Core.Bool.{true};
 ghost use Prim.Native.Nat.{_≤_};
 ghost use lib.ListN.{length};
+ghost use Rattle.aes.specs.KeySizes.{isKeyLength};
 ghost use Rattle.protocol.specs.Connection.{longestMessage};
 ghost use Rattle.protocol.specs.TransformHeader.{headerOf, inner, transformMessage};
 ghost use Rattle.protocol.specs.Compound.{walk};
@@ -27,7 +29,7 @@ fn size_then_walk(h: TransformHeader, e: Envelope, text: &[u8]) -> Answer
 
 // Opens the text in place, from the tag on. After a refusal the key stream is applied again, which turns it back.
 fn open_body(cipher: u16, key: &[u8], h: TransformHeader, e: Envelope, text: &mut [u8]) -> Answer
-    requires { ⌜ (length (now key) ≡ 16) × (length (now text) ≤ longestMessage) ⌝ }
+    requires { ⌜ (isKeyLength (length (now key)) ≡ true) × (length (now text) ≤ longestMessage) ⌝ }
     ensures { λ r. ⌜ OpensBody cipher (now (key .entry)) (headerFrom h) (envelopeOf e) (now (text .entry)) (now (text .exit)) (answerOf r) ⌝ }
 {
     let nonce = h.nonce;
@@ -51,7 +53,7 @@ pub fn open_message(
     e: Envelope,
     m: &mut [u8],
 ) -> Answer
-    requires { ⌜ (length (now key) ≡ 16) × ((headerFrom h ≡ headerOf (now m)) × Sized (now m)) ⌝ }
+    requires { ⌜ (isKeyLength (length (now key)) ≡ true) × ((headerFrom h ≡ headerOf (now m)) × Sized (now m)) ⌝ }
     ensures { λ r. ⌜ OpensMessage cipher (now (key .entry)) (envelopeOf e) (now (m .entry)) (now (m .exit)) (answerOf r) ⌝ }
 {
     open_body(cipher, key, h, e, &mut m[52..])
@@ -77,7 +79,7 @@ fn write_header(m: &mut [u8], tag: [u8; 16], aad: [u8; 32])
 
 // Seals the message in place once all tests have passed.
 pub fn seal_message(cipher: u16, key: &[u8], counter: u64, id: u64, m: &mut [u8])
-    requires { ⌜ (length (now key) ≡ 16) × Sized (now m) ⌝ }
+    requires { ⌜ (isKeyLength (length (now key)) ≡ true) × Sized (now m) ⌝ }
     ensures { λ _. ⌜ now (m .exit) ≡ sealedUnder ciphers cipher (now (key .entry)) counter id (inner (now (m .entry))) ⌝ }
 {
     let size = (m.len() - 52) as u32;

@@ -28,7 +28,7 @@ pub fn open_under(c: Connection, key: &[u8], id: u64, message: &mut [u8]) -> Ans
     let line6 = refuse(6, !(h.session_id == id), 0);
     let line4 = refusals::header_number(c, h, line6);
     let line1 = refusals::message_number(c, message, line4);
-    let first = refusals::key_number(key, line1);
+    let first = refusals::key_number(c, key, line1);
     if first != 0 {
         return Answer::Refused(first);
     }
@@ -42,7 +42,7 @@ fn seal_answer(c: Connection, key: &[u8], counter: u64, id: u64, message: &[u8])
 {
     let e = envelope::sent(c, id);
     let line1 = refusals::message_number(c, message, 0);
-    let first = refusals::key_number(key, line1);
+    let first = refusals::key_number(c, key, line1);
     if first != 0 {
         return Answer::Refused(first);
     }

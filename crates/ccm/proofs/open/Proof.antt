@@ -1,30 +1,29 @@
--- Right because the key stream, applied twice, gives the text back where the tag differs.
+-- Right because the round keys and their number are those of the key.
 -- Assumes nothing.
-use mathlib.Core.Path.{sym, _∙_}
+use Prim.Native.Nat.{_<_}
 use denote.Ref.{now}
-use Rattle.aes.specs.BlockCipher.{blockCipher}
-use Rattle.ccm.proofs.Opening.{opened-right, opened-wrong}
+use Rattle.aes.proofs.KeySizeLaws.{keyed, positive, bounded}
+use Rattle.ccm.proofs.Opening.{opened-under}
 use borrow.Author.Needs.{needs}
 use Rattle.ccm.proofs.open.Statement.{statement}
 use Rattle.ccm.proofs.open.Tie as tie
 
+open-with-requires : tie.Need-open-with-requires
+open-with-requires c κs =
+    let r = c .before .rounds in
+    let start = c .before .before .before .before .before .before .before in
+    let p : 0 < r .result = positive (now (start .args .key)) (r .ensures) in
+    let q : r .result < 15 = bounded (now (start .args .key)) (r .ensures) (start .pre .0) in
+    search needs
+
 returns : tie.Need-returns
 returns c =
-    let u = c .before .before .tag-of in
-    let m = c .before .before .before .before .before .before .before .xor-key-stream in
-    let a = c .before .before .before .before .before .before .before .before .before .before .before .before .args in
-    opened-right (blockCipher (a .keys)) (a .nonce) (a .aad) (a .tag) (now (a .text))
-    (m .last .1 .1 .1 .0) (u .result) (m .ensures) (u .ensures) (sym (c .before .same-16 .ensures) ∙ c .if1 .taken)
-
-returns-2 : tie.Need-returns-2
-returns-2 c =
-    let i = c .before .before .before .before .before in
-    let u = i .before .before .tag-of in
-    let m = i .before .before .before .before .before .before .before .xor-key-stream in
-    let a = i .before .before .before .before .before .before .before .before .before .before .before .before .args in
-    opened-wrong (blockCipher (a .keys)) (a .nonce) (a .aad) (a .tag) (now (a .text))
-    (m .last .1 .1 .1 .0) (u .result) (m .ensures) (u .ensures) _ (sym (i .before .same-16 .ensures) ∙ i .if1 .left)
-    (c .before .before .xor-key-stream2 .ensures)
+    let s = c .before .before in
+    let r = s .before .before in
+    let k = r .before .before in
+    let a = k .before .before .before .before .args in
+    let e = keyed (now (a .key)) (r .rounds .ensures) (k .round-keys .ensures) in
+    opened-under e (s .open-with .ensures)
 
 pub open-spec : {M : Type 1} → statement M
 open-spec =
@@ -33,9 +32,6 @@ open-spec =
     (λ c κs. search needs)
     (λ c κs. search needs)
     (λ c κs. search needs)
-    (λ c κs. search needs)
-    (λ c κs. search needs)
+    open-with-requires
     (λ c. search needs)
-    returns
-    (λ c. search needs)
-    returns-2)
+    returns)

@@ -7,7 +7,7 @@ use denote.Ref.{now}
 use lib.ListN.{length}
 use Rattle.octets.specs.Numbers.{toBigEndian}
 use Rattle.aes.proofs.Lengths.{length-cipher}
-use Rattle.aes.specs.BlockCipher.{blockCipher}
+use Rattle.aes.specs.Cipher.{cipher}
 use Rattle.ccm.proofs.Tag.{tag-right}
 use borrow.Author.Needs.{needs}
 use Rattle.ccm.proofs.tag_of.Statement.{statement}
@@ -26,12 +26,12 @@ returns c =
     let st = c .before .before .before .before .before .before .before .before .before .before .before .before in
     let a = st .args in
     let keys = a .keys in
-    tag-right (blockCipher keys) (a .nonce) (a .aad) (now (a .text)) (st .good .1 .1 .0 .1 .0 .1) (st .good .1 .1 .1 .0 .1 .0 .1)
-    (length-cipher (length keys - 1) keys)
+    tag-right (cipher (a .rounds) keys) (a .nonce) (a .aad) (now (a .text)) (st .good .1 .1 .1 .0 .1 .0 .1) (st .good .1 .1 .1 .1 .0 .1 .0 .1)
+    (length-cipher (a .rounds) keys)
     (b .result) (w .result) (y0 .result) (y1 .result) (y .result) (s .result) _
     (b .ensures ∙ ap (λ (p : List ℕ). p ++ toBigEndian 4 (length (now (a .text)))) (bf .ensures))
     (w .ensures) (y0 .ensures) (y1 .ensures) (y .ensures)
-    (s .ensures ∙ ap (λ (p : List ℕ). blockCipher keys (p ++ toBigEndian 4 0)) (zf .ensures))
+    (s .ensures ∙ ap (λ (p : List ℕ). cipher (a .rounds) keys (p ++ toBigEndian 4 0)) (zf .ensures))
     (c .xor-16 .ensures)
 
 pub tag-of-spec : {M : Type 1} → statement M

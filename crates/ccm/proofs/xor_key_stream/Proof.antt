@@ -4,7 +4,7 @@ use mathlib.Core.List.{List}
 use mathlib.Core.Path.{ap, _∙_}
 use Prim.Native.Nat.{ℕ}
 use denote.Ref.{now}
-use Rattle.aes.specs.BlockCipher.{blockCipher}
+use Rattle.aes.specs.Cipher.{cipher}
 use Rattle.ctr.specs.Ctr.{ctr, counterBlocks}
 use Rattle.ccm.specs.General as general
 use borrow.Author.Needs.{needs}
@@ -17,7 +17,7 @@ returns c =
     let p = c .before .before .before .before in
     let a = p .before .before .args in
     c .before .before .apply .ensures
-    ∙ ap (λ (x : List ℕ). ctr (blockCipher (a .keys)) (counterBlocks x 1) (now (a .text))) (p .flags-and-nonce .ensures)
+    ∙ ap (λ (x : List ℕ). ctr (cipher (a .rounds) (a .keys)) (counterBlocks x 1) (now (a .text))) (p .flags-and-nonce .ensures)
 
 pub xor-key-stream-spec : {M : Type 1} → statement M
 xor-key-stream-spec =

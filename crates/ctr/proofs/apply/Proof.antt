@@ -7,25 +7,25 @@ use lib.ListN.{length}
 use lib.Seq.{paste, paste-zero}
 use denote.Ref.{now}
 use borrow.Author.Needs.{needs}
-use Rattle.aes.specs.BlockCipher.{blockCipher}
+use Rattle.aes.specs.Cipher.{cipher}
 use Rattle.ctr.specs.Ctr.{ctr, counterBlocks}
 use Rattle.ctr.proofs.CtrLaws.{counter-turn, ctr-end}
 use Rattle.ctr.proofs.apply.Statement.{statement}
 use Rattle.ctr.proofs.apply.Tie as tie
 
 abbrev Inv-loop : tie.InvT-loop
-Inv-loop t keys prefix first text₀ i₀ n₀ text i n =
-    (text ≡ paste text₀ 0 (ctr (blockCipher keys) (counterBlocks prefix first) text₀) i) × (i ≡ 16 * (n - first)) × (first ≤ n) × (i ≤ length text₀)
+Inv-loop t keys rounds prefix first text₀ i₀ n₀ text i n =
+    (text ≡ paste text₀ 0 (ctr (cipher rounds keys) (counterBlocks prefix first) text₀) i) × (i ≡ 16 * (n - first)) × (first ≤ n) × (i ≤ length text₀)
     × (length text ≡ length text₀)
 
 abbrev μ-loop : tie.MeasureT-loop
-μ-loop t keys prefix first text₀ i₀ n₀ text i n = length text₀ - i
+μ-loop t keys rounds prefix first text₀ i₀ n₀ text i n = length text₀ - i
 
 loop-holds : tie.Need-loop-holds Inv-loop μ-loop
 loop-holds c =
     let a = c .before .args in
     let text = now (a .text) in
-    let E = blockCipher (a .keys) in
+    let E = cipher (a .rounds) (a .keys) in
     (paste-zero text 0 (ctr E (counterBlocks (a .prefix) (a .first)) text), omega arith, omega arith, omega arith, refl)
 
 loop-again : tie.Need-loop-again Inv-loop μ-loop
@@ -34,7 +34,7 @@ loop-again c =
     let g = c .before .before .before .encrypt-counter in
     let k = c .before .before .before .before .before .before in
     let a = k .before .before .args in (
-      counter-turn (blockCipher (a .keys)) (a .prefix) (a .first) (k .loop .n) (now (a .text)) (k .loop .i) 16 (g .result) (k .loop .text) _
+      counter-turn (cipher (a .rounds) (a .keys)) (a .prefix) (a .first) (k .loop .n) (now (a .text)) (k .loop .i) 16 (g .result) (k .loop .text) _
           (omega arith) (omega arith) (omega arith) (omega arith) (g .ensures) (k .loop .inv .0) (x .ensures),
       omega arith,
       omega arith,
@@ -49,15 +49,15 @@ returns c =
     let k = c .before .before .before .before .before .before .before in
     let a = k .before .before .args in
     let m : ℕ = length (k .loop .text) - k .loop .i in
-    ctr-end (blockCipher (a .keys)) (counterBlocks (a .prefix) (a .first)) (now (a .text)) (k .loop .i + m) _ (omega arith)
-    (counter-turn (blockCipher (a .keys)) (a .prefix) (a .first) (k .loop .n) (now (a .text)) (k .loop .i) m (g .result) (k .loop .text) _
+    ctr-end (cipher (a .rounds) (a .keys)) (counterBlocks (a .prefix) (a .first)) (now (a .text)) (k .loop .i + m) _ (omega arith)
+    (counter-turn (cipher (a .rounds) (a .keys)) (a .prefix) (a .first) (k .loop .n) (now (a .text)) (k .loop .i) m (g .result) (k .loop .text) _
     (omega arith) (omega arith) (omega arith) (omega arith) (g .ensures) (k .loop .inv .0) (x .ensures))
 
 returns-2 : tie.Need-returns-2 Inv-loop μ-loop
 returns-2 c =
     let k = c .before .before in
     let a = k .before .before .args in
-    ctr-end (blockCipher (a .keys)) (counterBlocks (a .prefix) (a .first)) (now (a .text)) (k .loop .i) (k .loop .text) (omega arith) (k .loop .inv .0)
+    ctr-end (cipher (a .rounds) (a .keys)) (counterBlocks (a .prefix) (a .first)) (now (a .text)) (k .loop .i) (k .loop .text) (omega arith) (k .loop .inv .0)
 
 pub apply-spec : {M : Type 1} → statement M
 apply-spec =

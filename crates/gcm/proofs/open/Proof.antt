@@ -1,27 +1,28 @@
--- Right because the text is decrypted only where its tag is right.
-use mathlib.Core.Path.{sym, _∙_}
+-- Right because the round keys and their number are those of the key.
+use Prim.Native.Nat.{_<_}
 use borrow.Author.Needs.{needs}
 use denote.Ref.{now}
-use Rattle.aes.specs.BlockCipher.{blockCipher}
-use Rattle.gcm.proofs.InPlace.{opened-right, opened-wrong}
+use Rattle.aes.proofs.KeySizeLaws.{keyed, positive, bounded}
+use Rattle.gcm.proofs.InPlace.{opened-under}
 use Rattle.gcm.proofs.open.Statement.{statement}
 use Rattle.gcm.proofs.open.Tie as tie
 
+open-with-requires : tie.Need-open-with-requires
+open-with-requires c κs =
+    let r = c .before .rounds in
+    let start = c .before .before .before .before .before .before .before .before in
+    let p : 0 < r .result = positive (now (start .args .key)) (r .ensures) in
+    let q : r .result < 15 = bounded (now (start .args .key)) (r .ensures) (start .pre .0) in
+    search needs
+
 returns : tie.Need-returns
 returns c =
-    let e = c .before .before in
-    let i = e .before .before .before in
-    let t = i .before .before in
-    let args = t .before .before .before .before .before .before .args in
-    opened-right (blockCipher (args .keys)) (args .nonce) (now (args .aad)) (args .tag) (now (args .text)) (t .tag-with .result)
-    (t .tag-with .ensures) _ (sym (i .before .same-16 .ensures) ∙ i .if1 .taken) (e .encrypt-with .ensures)
-
-returns-2 : tie.Need-returns-2
-returns-2 c =
-    let t = c .before .before in
-    let args = t .before .before .before .before .before .before .args in
-    opened-wrong (blockCipher (args .keys)) (args .nonce) (now (args .aad)) (args .tag) (now (args .text)) (t .tag-with .result)
-    (t .tag-with .ensures) (sym (c .before .same-16 .ensures) ∙ c .if1 .left)
+    let s = c .before .before in
+    let r = s .before .before in
+    let k = r .before .before in
+    let a = k .before .before .before .before .before .args in
+    let e = keyed (now (a .key)) (r .rounds .ensures) (k .round-keys .ensures) in
+    opened-under e (s .open-with .ensures)
 
 pub open-spec : {M : Type 1} → statement M
 open-spec =
@@ -30,8 +31,6 @@ open-spec =
     (λ c κs. search needs)
     (λ c κs. search needs)
     (λ c κs. search needs)
-    (λ c κs. search needs)
+    open-with-requires
     (λ c. search needs)
-    returns
-    (λ c. search needs)
-    returns-2)
+    returns)

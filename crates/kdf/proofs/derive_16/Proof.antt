@@ -4,6 +4,7 @@ use mathlib.Core.Path.{sym, ap, _∙_}
 use mathlib.Core.List.{List}
 use Prim.Native.Nat.{ℕ}
 use native.Mathlib.Omega.{arith}
+use lib.Dec.{lit≤}
 use lib.ListN.{take, replicate}
 use lib.Seq.{length-take-le}
 use Rattle.octets.proofs.Paste.{paste-all}
@@ -25,7 +26,7 @@ returns c =
     c .before .copy .ensures
     ∙ paste-all (replicate 16 0) 0 (take 16 (k .result)) (omega (arith, length-take-le 16 (k .result) (omega (arith, k .ok .1 .0 .1))))
     ∙ ap (λ (l : List ℕ). take 16 l) (k .ensures)
-    ∙ sym (of-first-block (a .key .now) (a .label .now) (a .context .now))
+    ∙ sym (of-first-block 16 (lit≤ tt) (lit≤ tt) (a .key .now) (a .label .now) (a .context .now))
 
 pub derive-16-spec : {M : Type 1} → statement M
 derive-16-spec =

@@ -11,7 +11,7 @@ returns c =
     let k = c .before .before .before .before in
     let a = k .before .before .before .before .args in
     first-is (now (a .key)) (now (a .m)) _ _ _ _ _ _ (k .before .begins .ensures) (c .before .before .longest-message .ensures)
-    (k .refuse .ensures) (c .before .before .before .refuse2 .ensures) (c .before .refuse3 .ensures) (c .key-number .ensures)
+    (k .refuse .ensures) (c .before .before .before .refuse2 .ensures) (c .before .refuse3 .ensures) (c .signing-key-number .ensures)
 
 pub refusal-spec : {M : Type 1} → statement M
 refusal-spec =

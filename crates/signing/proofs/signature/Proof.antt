@@ -9,8 +9,7 @@ use denote.Ref.{now}
 use lib.ListN.{replicate, length-take}
 use lib.Seq.{length-take-le, take-all}
 use Rattle.octets.proofs.Paste.{part-all}
-use Rattle.aes.specs.KeyExpansion.{keyExpansion}
-use Rattle.aes.specs.BlockCipher.{blockCipher}
+use Rattle.aes.specs.BlockCipher.{blockCipher, expandedKey}
 use Rattle.cmac.specs.Cmac as rfc4493
 use Rattle.protocol.specs.Signing.{withSignature, signatureUnder}
 use Rattle.protocol.proofs.SuiteLaws.{cmac-is}
@@ -40,8 +39,8 @@ returns c =
     let key = now (st .args .key) in
     let m = now (st .args .m) in
     let E = blockCipher (keys .expand-key .result) in
-    let same-key : keys .expand-key .result ≡ keyExpansion 4 10 key =
-    keys .expand-key .ensures ∙ ap (keyExpansion 4 10) (keys .before .bytes-16 .ensures ∙ take-all 16 key (le-of-eq (st .pre .0))) in
+    let same-key : keys .expand-key .result ≡ expandedKey key =
+    keys .expand-key .ensures ∙ ap expandedKey (keys .before .bytes-16 .ensures ∙ take-all 16 key (le-of-eq (st .pre .0))) in
     c .finish .ensures _ (c .before .before .update2 .ensures _ (one .update .ensures [] (new .new .ensures E)))
     ∙ ap (rfc4493.cmac E)
     (taken-in m (header .copy .last .0) _ (length-take-le 48 m (omega (arith, st .pre .1))) (header .copy .ensures) (part-all m 64))

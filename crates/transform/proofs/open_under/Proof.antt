@@ -3,6 +3,7 @@ use mathlib.Core.Path.{_∙_}
 use borrow.Author.Needs.{needs}
 use Rattle.connection.specs.Reading.{connectionOf}
 use Rattle.transform_header.proofs.HeaderIn.{header-there}
+use Rattle.protocol.proofs.First.{key-length}
 use Rattle.transform.proofs.Inner.{sized}
 use Rattle.transform.proofs.Opening.{lines-chained, lines-refuse, lines-passed, message-opens}
 use Rattle.transform.proofs.open_under.Statement.{statement}
@@ -27,7 +28,7 @@ open-message-requires c κs =
     (c5 .before .before .before .before .read-header .ensures) (c5 .before .before .refuse .ensures)
     (c5 .before .header-number .ensures) (c .before .before .before .before .message-number .ensures) (c .before .before .before .key-number .ensures) in
     let first = lines-passed (connectionOf (a .c)) (a .key .now) (a .id) (a .message .now) _ said (c .before .before .if1 .left) in (
-      first .key-fits,
+      key-length (connectionOf (a .c)) (a .key .now) (a .message .now) first,
       (
         c5 .before .before .before .before .read-header .ensures ∙ header-there (a .message .now) (first .long),
         sized (connectionOf (a .c))

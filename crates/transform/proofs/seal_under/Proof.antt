@@ -5,6 +5,7 @@ use borrow.Author.Needs.{needs}
 use Rattle.protocol.specs.Calls.{sealingUnder, messageAndCounter}
 use Rattle.protocol.proofs.CallLaws.{makes-refused}
 use Rattle.connection.specs.Reading.{connectionOf}
+use Rattle.protocol.proofs.First.{key-length}
 use Rattle.transform.proofs.Inner.{sized}
 use Rattle.transform.proofs.Sealing.{tests-passed, not-last, seals}
 use Rattle.transform.proofs.seal_under.Statement.{statement}
@@ -24,7 +25,7 @@ seal-message-requires c κs =
     let a = c5 .before .before .before .args in
     let first = tests-passed (connectionOf (a .c)) (a .key .now) (a .id) (a .counter) (a .message .now) _
     (c .before .before .before .before .seal-answer .ensures) (sym (c .before .before .before .refused .ensures) ∙ c .before .before .if1 .left) in
-    (first .key-fits, sized (connectionOf (a .c)) (a .key .now) (a .message .now) first)
+    (key-length (connectionOf (a .c)) (a .key .now) (a .message .now) first, sized (connectionOf (a .c)) (a .key .now) (a .message .now) first)
 
 add-t14 : tie.Need-add-t14
 add-t14 c =

@@ -9,24 +9,14 @@ use Rattle.keys.proofs.labels.keys_311.Tie as tie
 returns : tie.Need-returns
 unfolding smbSigningKey smbAppKey smbC2SCipherKey smbS2CCipherKey
 returns c =
-    let k = c .before .before .before .before .before .before .before .before .before .before .args .key .now in
-    let v = c .before .before .before .before .before .before .before .before .before .before .args .chain .now in
+    let m = c .before .before .before .before .before .before .before .before .before .before .before .before .before .args .material .now in
+    let v = c .before .before .before .before .before .before .before .before .before .before .before .before .before .args .chain .now in
+    let key = c .before .before .before .before .before .before .before .before .before .before .block-at .ensures in
     same-keys _ _
-    (key-is _ k smbSigningKey v (c .before .before .before .before .before .before .derive-16 .ensures))
-    (key-is _ k smbAppKey v (c .before .before .before .before .derive-162 .ensures))
-    (key-is _ k smbC2SCipherKey v (c .before .before .derive-163 .ensures))
-    (key-is _ k smbS2CCipherKey v (c .derive-164 .ensures))
+    (key-is _ _ m smbSigningKey v key (c .before .before .before .before .before .before .before .derive-16 .ensures))
+    (key-is _ _ m smbAppKey v key (c .before .before .before .before .derive-162 .ensures))
+    (c .before .before .cipher-key .ensures)
+    (c .cipher-key2 .ensures)
 
 pub keys-311-spec : {M : Type 1} → statement M
-keys-311-spec =
-    tie.close
-    (tie.spec
-    (λ c. search needs)
-    (λ c κs. search needs)
-    (λ c. search needs)
-    (λ c κs. search needs)
-    (λ c. search needs)
-    (λ c κs. search needs)
-    (λ c. search needs)
-    (λ c κs. search needs)
-    returns)
+keys-311-spec = tie.close (tie.spec (λ c κs. search needs) (λ c. search needs) (λ c. search needs) (λ c κs. search needs) (λ c. search needs) (λ c. search needs) (λ c κs. search needs) (λ c. search needs) (λ c κs. search needs) (λ c. search needs) (λ c κs. search needs) returns)

@@ -1,84 +1,58 @@
--- Right because each copy lengthens by 16 bytes the front of the place that is written, up to the place's 64.
+-- Right because a wide key is written whole, and of another the first 16 bytes.
 -- Assumes nothing.
-use Rattle.keys.proofs.PlaceLaws.{begun, further, written-whole}
-use mathlib.Core.List.{[]}
+use mathlib.Core.Path.{_≡_, sym, ap, _∙_}
+use mathlib.Core.Bool.{Bool, true, false}
 use native.Mathlib.Omega.{arith}
+use lib.ListN.{length, take}
+use lib.Seq.{take-all, length-take-le}
+use Rattle.keys.proofs.PlaceLaws.{whole-written, short-written}
+use Rattle.protocol.specs.Connection.{placeBytes}
 use borrow.Author.Needs.{needs}
 use Rattle.keys.proofs.place.write.Statement.{statement}
 use Rattle.keys.proofs.place.write.Tie as tie
 
-slice-aggregate-copy : tie.Need-slice-aggregate-copy
-slice-aggregate-copy c = search needs
+slice-aggregate-write-four : tie.Need-slice-aggregate-write-four
+slice-aggregate-write-four c = search needs
 
-copy-requires : tie.Need-copy-requires
-copy-requires c κs = omega (arith, slice-aggregate-copy c, c .before .before .before .before .before .before .before .pre)
+slice-aggregate-write-four-2 : tie.Need-slice-aggregate-write-four-2
+slice-aggregate-write-four-2 c = search needs
 
-slice-aggregate-copy-2 : tie.Need-slice-aggregate-copy-2
-slice-aggregate-copy-2 c = search needs
+write-four-requires : tie.Need-write-four-requires
+write-four-requires c κs =
+    omega (arith, slice-aggregate-write-four (c .before), slice-aggregate-write-four-2 c, c .before .before .before .before .before .before .before .before .before .pre ∙ ap placeBytes (c .before .before .before .if1 .taken))
 
-copy-requires-2 : tie.Need-copy-requires-2
-copy-requires-2 c κs =
-    let one = c .before .before .before in
-    omega (arith, slice-aggregate-copy-2 c, one .place .given, one .before .before .before .before .before .before .before .before .before .pre)
+slice-aggregate-bytes-16 : tie.Need-slice-aggregate-bytes-16
+slice-aggregate-bytes-16 c = search needs
 
-slice-aggregate-copy-3 : tie.Need-slice-aggregate-copy-3
-slice-aggregate-copy-3 c = search needs
+bytes-16-requires : tie.Need-bytes-16-requires
+bytes-16-requires c κs = omega (arith, slice-aggregate-bytes-16 c)
 
-copy-requires-3 : tie.Need-copy-requires-3
-copy-requires-3 c κs =
-    let two = c .before .before .before in
-    let one = two .before .before .before .before .before in
-    omega (
-      arith,
-      slice-aggregate-copy-3 c,
-      two .place2 .given,
-      one .place .given,
-      one .before .before .before .before .before .before .before .before .before .pre,
-    )
+slice-aggregate-bytes-16-2 : tie.Need-slice-aggregate-bytes-16-2
+slice-aggregate-bytes-16-2 c = search needs
 
-slice-aggregate-copy-4 : tie.Need-slice-aggregate-copy-4
-slice-aggregate-copy-4 c = search needs
+bytes-16-requires-2 : tie.Need-bytes-16-requires-2
+bytes-16-requires-2 c κs = omega (arith, slice-aggregate-bytes-16-2 c)
 
-copy-requires-4 : tie.Need-copy-requires-4
-copy-requires-4 c κs =
-    let three = c .before .before .before in
-    let two = three .before .before .before .before .before in
-    let one = two .before .before .before .before .before in
-    omega (
-      arith,
-      slice-aggregate-copy-4 c,
-      three .place3 .given,
-      two .place2 .given,
-      one .place .given,
-      one .before .before .before .before .before .before .before .before .before .pre,
-    )
+slice-aggregate-write-four-3 : tie.Need-slice-aggregate-write-four-3
+slice-aggregate-write-four-3 c = search needs
+
+slice-aggregate-write-four-4 : tie.Need-slice-aggregate-write-four-4
+slice-aggregate-write-four-4 c = search needs
+
+write-four-requires-2 : tie.Need-write-four-requires-2
+write-four-requires-2 c κs =
+    omega (arith, slice-aggregate-write-four-3 (c .before), slice-aggregate-write-four-4 c, c .before .before .before .before .before .before .before .before .before .before .before .before .before .pre ∙ ap placeBytes (c .before .before .before .before .before .before .before .if1 .left))
 
 returns : tie.Need-returns
 returns c =
-    let four = c .before .before in
-    let three = four .before .before .before .before .before in
-    let two = three .before .before .before .before .before in
-    let one = two .before .before .before .before .before in
-    let start = one .before .before .before .before .before .before .before .before in
-    let k = start .args .keys in
-    let w0 = begun _ (start .pre) in
-    let w1 = further 0 [] _ (k .signing) _ w0 (omega arith) (slice-aggregate-copy (one .before)) (one .copy .ensures) in
-    let w2 = further 16 _ _ (k .application) _ w1 (omega arith) (slice-aggregate-copy-2 (two .before)) (two .copy2 .ensures) in
-    let w3 = further 32 _ _ (k .«client_to_server») _ w2 (omega arith) (slice-aggregate-copy-3 (three .before)) (three .copy3 .ensures) in
-    let w4 = further 48 _ _ (k .«server_to_client») _ w3 (omega arith) (slice-aggregate-copy-4 (four .before)) (four .copy4 .ensures) in
-    written-whole (k .signing) (k .application) (k .«client_to_server») (k .«server_to_client») _ w4
+    let k = c .before .before .before .before .before .before .before .before .before .before .before .before .args .keys in
+    whole-written (c .before .before .before .before .before .before .before .before .before .before .before .before .args .wide) k _ (c .before .before .before .before .before .before .if1 .taken) (sym (slice-aggregate-write-four (c .before .before .before .before))) (sym (slice-aggregate-write-four-2 (c .before .before .before)))
+    (c .before .before .write-four .ensures)
+
+returns-2 : tie.Need-returns-2
+returns-2 c =
+    let k = c .before .before .before .before .before .before .before .before .before .before .before .before .before .before .before .before .args .keys in
+    short-written (c .before .before .before .before .before .before .before .before .before .before .before .before .before .before .before .before .args .wide) k _ (c .before .before .before .before .before .before .before .before .before .before .if1 .left) _ _ (c .before .before .before .before .before .before .before .before .bytes-16 .ensures) (c .before .before .before .before .before .before .bytes-162 .ensures) (c .before .before .write-four2 .ensures)
 
 pub write-spec : {M : Type 1} → statement M
-write-spec =
-    tie.close
-    (tie.spec
-    slice-aggregate-copy
-    copy-requires
-    slice-aggregate-copy-2
-    copy-requires-2
-    slice-aggregate-copy-3
-    copy-requires-3
-    slice-aggregate-copy-4
-    copy-requires-4
-    (λ c. search needs)
-    returns)
+write-spec = tie.close (tie.spec slice-aggregate-write-four slice-aggregate-write-four-2 write-four-requires slice-aggregate-bytes-16 bytes-16-requires slice-aggregate-bytes-16-2 bytes-16-requires-2 slice-aggregate-write-four-3 slice-aggregate-write-four-4 write-four-requires-2 (λ c. search needs) returns (λ c. search needs) returns-2)

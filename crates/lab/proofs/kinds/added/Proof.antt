@@ -24,7 +24,8 @@ returns-2 c = λ h.
     let a = past .before .before .before .before .before .before .before .before .args in
     let s = stateOf (a .from) in
     let m = now (a .payload) in
-    let call : ℕ → Call = λ (x : ℕ). adding (record { dialect = s .dialect; chain = s .session; id = x; material = bytesAt 8 16 m; guest = false; anonymous = false }) in
+    let call : ℕ → Call = λ (x : ℕ).
+    adding (record { dialect = s .dialect; cipher = s .cipher; chain = s .session; id = x; material = bytesAt 8 16 m; guest = false; anonymous = false }) in
     let w = onlyTable (s .table) in
     let r = past .add-in .ensures .0 in
     let id = past .before .before .before .before .before .u64-at .ensures in (

@@ -7,19 +7,23 @@ use Rattle.test_primitives.proofs.ccm_calls.primitives_ctr.Tie as tie
 
 ctr-sized-requires : tie.Need-ctr-sized-requires
 ctr-sized-requires c κs =
-    let a = c .before .before .before .before .before .args in
-    ctr-sized (a .key .now) (a .prefix .now) (a .text .now) (c .before .if1 .taken)
+    let a = c .before .before .before .before .before .before .args in
+    ctr-sized (a .key .now) (a .prefix .now) (a .text .now) (rw (c .before .before .is-key-length .ensures) at (c .before .if1 .taken))
 
 returns : tie.Need-returns
-returns c = writes _ _ _ _ (c .before .before .before .before .if1 .taken) (c .before .before .ctr-sized .ensures)
+returns c =
+    let i = c .before .before .before .before in
+    let t = rw (i .before .is-key-length .ensures) at (i .if1 .taken) in
+    writes _ _ _ _ t (c .before .before .ctr-sized .ensures)
 
 returns-2 : tie.Need-returns-2
-returns-2 c = writes-not _ _ _ (c .if1 .left)
+returns-2 c = writes-not _ _ _ (rw (c .before .is-key-length .ensures) at (c .if1 .left))
 
 pub primitives-ctr-spec : {M : Type 1} → statement M
 primitives-ctr-spec =
     tie.close
     (tie.spec
+    (λ c κs. search needs)
     ctr-sized-requires
     (λ c. search needs)
     returns

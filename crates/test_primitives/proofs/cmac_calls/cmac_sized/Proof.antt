@@ -4,9 +4,9 @@ use mathlib.Core.List.{List, [], _++_}
 use mathlib.Core.Path.{ap, _∙_}
 use Prim.Native.Nat.{ℕ}
 use denote.Ref.{now}
-use Rattle.aes.specs.BlockCipher.{blockCipher}
+use Rattle.aes.specs.BlockCipher.{blockCipher, expandedKey}
 use Rattle.cmac.specs.Cmac as rfc4493
-use Rattle.test_primitives.proofs.Laws.{expanded}
+use Rattle.test_primitives.proofs.Laws.{whole}
 use borrow.Author.Needs.{needs}
 use Rattle.test_primitives.proofs.cmac_calls.cmac_sized.Statement.{statement}
 use Rattle.test_primitives.proofs.cmac_calls.cmac_sized.Tie as tie
@@ -16,7 +16,7 @@ returns c =
     let one = c .before .before .before .before in
     let x = one .before .before .before .before in
     let s = x .before .before .before .before .before in
-    let k = expanded (now (s .args .key)) _ _ (s .pre) (x .before .bytes-16 .ensures) (x .expand-key .ensures) in
+    let k = x .expand-key .ensures ∙ ap expandedKey (whole 16 (now (s .args .key)) _ (s .pre) (x .before .bytes-16 .ensures)) in
     c .finish .ensures _ (c .before .before .update2 .ensures _ (one .update .ensures [] (one .before .before .new .ensures _)))
     ∙ ap (λ (keys : List (List ℕ)). rfc4493.cmac (blockCipher keys) (now (s .args .front) ++ now (s .args .back))) k
 

@@ -7,14 +7,14 @@ use borrow.Author.Needs.{needs}
 use Rattle.test_vectors.proofs.modes.ccm.Statement.{statement}
 use Rattle.test_vectors.proofs.modes.ccm.Tie as tie
 
-slice-aggregate-ccm-there-and-back : tie.Need-slice-aggregate-ccm-there-and-back
-slice-aggregate-ccm-there-and-back c =
-    let m = c .before .before .before .bytes4 in
+slice-aggregate-ccm-under : tie.Need-slice-aggregate-ccm-under
+slice-aggregate-ccm-under c =
+    let m = c .before .before .before .before .bytes4 in
     sym (length-take-le _ _ (omega (arith, m .kept, m .ensures)))
 
-ccm-there-and-back-requires : tie.Need-ccm-there-and-back-requires
-ccm-there-and-back-requires c κs =
-    let m = c .before .before .before .bytes4 in
+ccm-under-requires : tie.Need-ccm-under-requires
+ccm-under-requires c κs =
+    let m = c .before .before .before .before .bytes4 in
     let l = length-take-le (m .result .len) (m .last .1 .1 .0) (omega (arith, m .kept, m .ensures)) in
     omega (arith, l, m .kept, m .ensures)
 
@@ -31,8 +31,9 @@ ccm-spec =
     (λ c κs. search needs)
     (λ c. search needs)
     (λ c κs. search needs)
+    (λ c. search needs)
     (λ c κs. search needs)
     (λ c. search needs)
-    slice-aggregate-ccm-there-and-back
-    ccm-there-and-back-requires
+    slice-aggregate-ccm-under
+    ccm-under-requires
     (λ c. search needs))

@@ -9,7 +9,7 @@ returns c = λ aad.
     let nonce = c .before .before .before .before in
     let two = nonce .before .before in
     let a = two .before .before .before .before .args in
-    gcm-applied (a .cipher) (a .key .now) (a .t3) aad _ _ (two .before .round-keys .ensures) (two .if1 .taken) (nonce .bytes-12 .ensures) _ _
+    gcm-applied (a .cipher) (a .key .now) (a .t3) aad _ _ (two .before .is-gcm .ensures) (two .if1 .taken) (nonce .bytes-12 .ensures) _ _
     (c .before .before .apply .ensures)
 
 returns-2 : tie.Need-returns-2
@@ -17,7 +17,7 @@ returns-2 c = λ aad.
     let nonce = c .before .before .before .before in
     let two = nonce .before .before in
     let a = two .before .before .before .before .args in
-    ccm-applied (a .cipher) (a .key .now) (a .t3) aad _ _ (two .before .round-keys .ensures) (two .if1 .left) (nonce .bytes-11 .ensures) _ _
+    ccm-applied (a .cipher) (a .key .now) (a .t3) aad _ _ (two .before .is-gcm .ensures) (two .if1 .left) (nonce .bytes-11 .ensures) _ _
     (c .before .before .apply2 .ensures)
 
 pub apply-spec : {M : Type 1} → statement M

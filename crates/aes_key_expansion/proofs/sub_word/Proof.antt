@@ -1,10 +1,10 @@
--- Right because the bytes are taken one place on, and each is looked up.
+-- Right because each byte is looked up.
 use mathlib.Core.Path.{_∙_, ap}
 use borrow.Author.Needs.{needs}
 use Rattle.rijndael.specs.Field.{sbox}
 use Rattle.aes_words.proofs.WordLaws.{named}
-use Rattle.aes_key_expansion.proofs.sub_rot_word.Tie as tie
-use Rattle.aes_key_expansion.proofs.sub_rot_word.Statement.{statement}
+use Rattle.aes_key_expansion.proofs.sub_word.Tie as tie
+use Rattle.aes_key_expansion.proofs.sub_word.Statement.{statement}
 
 returns : tie.Need-returns
 returns c =
@@ -15,8 +15,8 @@ returns c =
     named (c .word .ensures) (s0 .sub-byte .ensures ∙ ap sbox (s0 .before .low .ensures)) (s1 .sub-byte2 .ensures ∙ ap sbox (s1 .before .low2 .ensures))
     (s2 .sub-byte3 .ensures ∙ ap sbox (s2 .before .low3 .ensures)) (s3 .sub-byte4 .ensures ∙ ap sbox (s3 .before .low4 .ensures))
 
-pub sub-rot-word-spec : {M : Type 1} → statement M
-sub-rot-word-spec =
+pub sub-word-spec : {M : Type 1} → statement M
+sub-word-spec =
     tie.close
     (tie.spec
     (λ c κs. search needs)
