@@ -9,12 +9,12 @@ use sha512_compression::constants::initial_hash_value;
 use sha512_compression::hash_blocks;
 use std::num::wrapping_add_u64;
 ghost use mathlib.Core.Path.{_≡_};
-ghost use mathlib.Core.List.{List, [], _++_};
+ghost use mathlib.Core.List.{List, _++_};
 ghost use Prim.Native.Nat.{ℕ, _<_, _^_};
 ghost use lib.ListN.{length};
 ghost use Rattle.sha2.specs.Sha2 as sha2;
 ghost use Rattle.sha2.specs.Sha512.{sha512};
-ghost use Rattle.sha512.specs.Code.{Holds};
+ghost use Rattle.sha512.specs.Code.{Holds, nothingTaken};
 
 // A hash under way: the hash value after the whole blocks, the bytes past them, and how many bytes there were, modulo 2^64.
 #[repr(C)]
@@ -27,7 +27,7 @@ pub struct Sha512 {
 impl Sha512 {
     // Nothing taken in yet.
     pub fn new() -> Sha512
-        ensures { λ r. ⌜ Holds r [] ⌝ }
+        ensures { λ r. ⌜ r ≡ nothingTaken ⌝ }
     {
         let hash = initial_hash_value();
         let buffer = [0u8; 128];

@@ -2,6 +2,7 @@
 -- Assumes nothing.
 use mathlib.Core.Path.{refl}
 use mathlib.Core.List.{[], append-nil}
+use Rattle.sha512.proofs.Beginning.{new-holds}
 use Rattle.fold_pieces.proofs.StateLaws.{begin-refused, begin-done}
 use borrow.Author.Needs.{needs}
 use Rattle.fold_pieces.proofs.begin.Statement.{statement}
@@ -14,7 +15,7 @@ returns-2 : tie.Need-returns-2
 returns-2 c =
     let v = c .before .before .before .before .args .chain .now in
     let l = c .before .before .if1 .left in
-    let h = c .update .ensures [] (c .before .new .ensures) in
+    let h = c .update .ensures [] (new-holds _ (c .before .new .ensures)) in
     begin-done v _ l refl (record { hashed = rw (append-nil v) h; started = l; counted = refl; headed = refl })
 
 pub begin-spec : {M : Type 1} → statement M
