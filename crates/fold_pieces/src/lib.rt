@@ -8,11 +8,11 @@ ghost use mathlib.Core.List.{List, _++_};
 ghost use Prim.Native.Nat.{ℕ, _+_};
 ghost use lib.ListN.{length, take};
 ghost use Rattle.protocol.specs.Preauth.{negotiateMessage, setupRequest, setupResponse, moreProcessing};
-ghost use Rattle.protocol.specs.Pieces.{Underway, notBegun};
-ghost use Rattle.protocol.specs.Calls.{foldBeginning, foldPiece};
+ghost use Rattle.protocol.specs.Pieces.{Underway};
+ghost use Rattle.protocol.specs.Calls.{foldPiece};
 ghost use Rattle.preauth.specs.Reading.{foldAnswerOf};
-ghost use Rattle.fold_pieces.specs.State.{StandsFor};
-ghost use Rattle.fold_pieces.specs.Contracts.{HandsOn, AnyPiece, FinishedAs, Closes, AnyFinish, Finishes};
+ghost use Rattle.fold_pieces.specs.State.{StandsFor, noMessage};
+ghost use Rattle.fold_pieces.specs.Contracts.{HandsOn, Begins, AnyPiece, FinishedAs, Closes, AnyFinish, Finishes};
 
 // struct smb3seal_fold_state: the hash of the value begun from and of the bytes joined so far, how many these are, and the first twelve of
 // them, which end with the status. Any bytes are a state; no message is under way where `underway` is 0.
@@ -35,7 +35,7 @@ pub struct FoldStep {
 
 // No message under way.
 fn ended() -> FoldState
-    ensures { λ r. ⌜ StandsFor r notBegun ⌝ }
+    ensures { λ r. ⌜ r ≡ noMessage ⌝ }
 {
     FoldState {
         hash: Sha512::new(),
@@ -48,7 +48,7 @@ fn ended() -> FoldState
 
 // A message begins from the chain value.
 pub fn begin(chain: &[u8]) -> FoldStep
-    ensures { λ r. ⌜ HandsOn (foldBeginning (now (chain .entry))) notBegun (r .number) (r .state) ⌝ }
+    ensures { λ r. ⌜ Begins (now (chain .entry)) r ⌝ }
 {
     if chain.len() != 64 {
         return FoldStep {
@@ -94,7 +94,7 @@ impl FoldState {
     // The piece follows what is joined, unless it would pass the limit: then the state stays as it is.
     pub fn piece(self, piece: &[u8]) -> FoldStep
         ensures { λ r. ⌜ AnyPiece self (now (piece .entry)) r
-            × ((u : Underway) → StandsFor self u → HandsOn (foldPiece (now (piece .entry))) u (r .number) (r .state)) ⌝ }
+            × ((u : Underway) → StandsFor self u → HandsOn (foldPiece (now (piece .entry))) u r) ⌝ }
     {
         let joined = self.joined;
         if !((self.underway != 0) & connection::fits(joined, piece.len())) {
@@ -160,7 +160,7 @@ impl FoldState {
     }
 }
 
-// What a finish hands back: a state with no message, whatever it answers.
+// What a finish hands back: the state with no message, whatever it answers.
 fn finished(a: FoldAnswer) -> FoldStep
     ensures { λ r. ⌜ FinishedAs r (foldAnswerOf a) ⌝ }
 {

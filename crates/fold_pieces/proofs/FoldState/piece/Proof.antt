@@ -18,7 +18,7 @@ returns : tie.Need-returns
 returns c =
     let a = c .before .before .before .before .args in
     let e = ap (λ (b : Bool). flag (a .self .underway) && b) (sym (c .before .fits2 .ensures)) ∙ not-true _ (c .if1 .taken) in
-    (any-refused (a .self) (now (a .piece)) _ e refl refl, λ u h. piece-refused (a .self) u h (now (a .piece)) e)
+    (any-refused (a .self) (now (a .piece)) _ e refl refl refl, λ u h. piece-refused (a .self) u h (now (a .piece)) e)
 
 add-t15 : tie.Need-add-t15
 add-t15 c =
@@ -33,7 +33,7 @@ returns-2 c =
     let past = c .before .before .before .before .before in
     let a = past .before .before .before .before .args in
     let e = ap (λ (b : Bool). flag (a .self .underway) && b) (sym (past .before .fits2 .ensures)) ∙ not-false _ (past .if1 .left) in (
-      any-taken (a .self) (now (a .piece)) _ e refl,
+      any-taken (a .self) (now (a .piece)) _ e refl refl,
       λ u h. piece-taken (a .self) u h (now (a .piece)) _ e refl (c .before .update .ensures) refl (c .head-with .ensures),
     )
 
