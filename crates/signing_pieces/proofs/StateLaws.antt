@@ -1,6 +1,6 @@
 -- What the calls answer and leave, by what the code's state says.
 -- Assumes nothing.
-use mathlib.Core.Path.{_≡_, refl, sym, ap, ap₂, _∙_}
+use mathlib.Core.Path.{_≡_, refl, sym, ap, ap₂, subst, _∙_}
 use mathlib.Core.Bool.{Bool, true, false, cond, not, _&&_, _||_, true≢false}
 use mathlib.Core.List.{List, [], _∷_, _++_}
 use Prim.Native.Nat.{ℕ, _+_, _/_, _%_, _≤_}
@@ -31,7 +31,7 @@ use Rattle.protocol.proofs.FirstOf.{first-stays, first-goes-on}
 use Rattle.protocol.proofs.Judging.{passes, line}
 use Rattle.protocol.proofs.SignedBytes.{flagged-append}
 use Rattle.signing_pieces.specs.declared.SignState.{SignState}
-use Rattle.signing_pieces.specs.Running.{takes, joinedNumber, StandsFor}
+use Rattle.signing_pieces.specs.Running.{takes, joinedNumber, StandsFor, noMessage}
 use Rattle.signing_pieces.specs.Contracts.{HandsOn, Begins, Takes}
 
 -- ---- the begin
@@ -53,8 +53,9 @@ begin-number : (key : Bytes) → answerNumber (answer suite (signBeginning key) 
 unfolding tests
 begin-number key = number-lines (signingKeyTests key) 0
 
-pub ends : (none header : Bytes) (mac : Mac) → StandsFor (record { key = none; header = header; code = mac; length = 0; begun = 0 }) notBegun
-ends none header mac =
+pub no-message-stands : StandsFor noMessage notBegun
+unfolding noMessage
+no-message-stands =
     record {
       flag = refl;
       count = refl;
@@ -67,23 +68,33 @@ pub begins : (key own header : Bytes) (mac : Mac) → length key ≡ 16 → own 
 begins key own header mac l e =
     let sixteen = eq-eqb (length key) 16 l in
     record {
-      number = sym (begin-number key ∙ ap (λ (b : Bool). cond (not b) 40 0) sixteen);
-      stands =
-          rw (begin-left key true sixteen)
-          (record {
-            flag = refl;
-            count = refl;
-            no-message = λ f. absurd (true≢false f);
-            under-way = λ t. record { its-key = e; front = refl; chained = λ k. absurd (omega arith) };
-          });
+      made =
+          record {
+            number = sym (begin-number key ∙ ap (λ (b : Bool). cond (not b) 40 0) sixteen);
+            stands =
+                rw (begin-left key true sixteen)
+                (record {
+                  flag = refl;
+                  count = refl;
+                  no-message = λ f. absurd (true≢false f);
+                  under-way = λ t. record { its-key = e; front = refl; chained = λ k. absurd (omega arith) };
+                });
+          };
+      refused = λ d. absurd (d l);
+      spare = refl;
     }
 
-pub not-begun : (key : Bytes) (s : SignState) → StandsFor s notBegun → (length key ≡ 16 → ⊥) → Begins key (record { state = s; number = 40; spare = 0 })
+pub not-begun : (key : Bytes) (s : SignState) → s ≡ noMessage → (length key ≡ 16 → ⊥) → Begins key (record { state = s; number = 40; spare = 0 })
 not-begun key s h d =
     let other = ne-eqb (length key) 16 d in
     record {
-      number = sym (begin-number key ∙ ap (λ (b : Bool). cond (not b) 40 0) other);
-      stands = rw (begin-left key false other) h;
+      made =
+          record {
+            number = sym (begin-number key ∙ ap (λ (b : Bool). cond (not b) 40 0) other);
+            stands = rw (begin-left key false other) (subst (λ (x : SignState). StandsFor x notBegun) (sym h) no-message-stands);
+          };
+      refused = λ f. h;
+      spare = refl;
     }
 
 -- ---- a piece
@@ -261,6 +272,7 @@ module _ (s : SignState) (p : Bytes) (fits : Bool) (e : fits ≡ leb (s .length 
       record {
         any-number = sym (ap (λ (b : Bool). cond b 0 3) none);
         any-refused = λ f. refl;
+        spare = refl;
         made = λ u h. handed-back s u h p none;
       }
 
@@ -277,5 +289,6 @@ module _ (s : SignState) (p : Bytes) (fits : Bool) (e : fits ≡ leb (s .length 
         record {
           any-number = sym (ap (λ (b : Bool). cond b 0 3) goes-in);
           any-refused = λ n. absurd (true≢false (sym goes-in ∙ n));
+          spare = refl;
           made = λ u h. handed-on s u h p r goes-in (f u h (takes-begun s u h p goes-in));
         }

@@ -37,9 +37,12 @@ pub record UnderWay (s : SignState) (key joined : Bytes) : Type 0 where
   pub front : take (length joined) (s .header) ≡ take 64 joined
   pub chained : 64 ≤ length joined → code.Holds (s .code) (aes key) (covered joined)
 
--- a state that is all zero stands for no message
 pub record StandsFor (s : SignState) (u : Underway) : Type 0 where
   pub flag : not (eqb (s .begun) 0) ≡ u .begun
   pub count : s .length ≡ length (u .joined)
   pub no-message : u .begun ≡ false → u .joined ≡ []
   pub under-way : u .begun ≡ true → UnderWay s (u .start) (u .joined)
+
+-- the state that a refused begin and a finish hand back: no key is left in it
+unfoldable pub noMessage : SignState
+noMessage = record { key = replicate 16 0; header = replicate 64 0; code = code.nothingTaken; length = 0; begun = 0 }

@@ -20,7 +20,7 @@ ghost use Rattle.protocol.specs.SigningPieces.{signatureOf};
 ghost use Rattle.protocol.specs.Calls.{signFinishing, verifyFinishing, onlyUnderway, onlySignature};
 ghost use Rattle.protocol.specs.Contract.{Returns};
 ghost use Rattle.protocol.specs.Suite as suite;
-ghost use Rattle.signing_pieces.specs.Running.{joinedNumber, StandsFor};
+ghost use Rattle.signing_pieces.specs.Running.{joinedNumber, StandsFor, noMessage};
 ghost use Rattle.signing_pieces.specs.Contracts.{Begins, Takes, Signs, Verifies};
 
 // struct smb3seal_sign_state, a message under way: any bytes are a state. The first 64 joined bytes are kept as they came, since the flag
@@ -44,7 +44,7 @@ pub struct SignStep {
 
 // No message under way.
 fn ended() -> SignState
-    ensures { λ r. ⌜ StandsFor r notBegun ⌝ }
+    ensures { λ r. ⌜ r ≡ noMessage ⌝ }
 {
     let none = [0u8; 16];
     let header = [0u8; 64];

@@ -1,5 +1,6 @@
 -- Right because the message is verified, and the state handed back has none.
 -- Assumes nothing.
+use mathlib.Core.Path.{refl}
 use borrow.Author.Needs.{needs}
 use Rattle.signing_pieces.proofs.SignState.verify.Statement.{statement}
 use Rattle.signing_pieces.proofs.SignState.verify.Tie as tie
@@ -7,7 +8,7 @@ use Rattle.signing_pieces.proofs.SignState.verify.Tie as tie
 returns : tie.Need-returns
 returns c =
     let read = c .before .verified .ensures in
-    record { any-refused = read .0; ended = c .ended .ensures; made = read .1 }
+    record { any-refused = read .0; ended = c .ended .ensures; spare = refl; made = read .1 }
 
 pub verify-spec : {M : Type 1} → statement M
 verify-spec =
