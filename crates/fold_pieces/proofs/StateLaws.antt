@@ -18,8 +18,7 @@ use Rattle.protocol.specs.Calls.{foldBeginning, foldPiece, Lent, onlyUnderway, 
 use Rattle.protocol.specs.Suite.{suite}
 use Rattle.connection.specs.Reading.{flag}
 use Rattle.fold_pieces.specs.declared.FoldState.{FoldState}
-use Rattle.fold_pieces.specs.declared.FoldStep.{FoldStep}
-use Rattle.fold_pieces.specs.State.{Hashes, StandsFor, noMessage, takes, ends}
+use Rattle.fold_pieces.specs.State.{Hashes, StandsFor, noMessage, stepWith, takes, ends}
 use Rattle.fold_pieces.specs.Contracts.{HandsOn, Begins, AnyPiece}
 
 -- no message: what the hash holds does not count
@@ -40,7 +39,7 @@ module _ (v : Bytes) where
   abbrev numberIf : Bool → ℕ
   numberIf fits = answerNumber (cond (not fits) (refused 40) (done 0))
 
-  pub begin-refused : (s : FoldState) → length v ≢ 64 → s ≡ noMessage → Begins v (record { state = s; number = 40; folded = 0 })
+  pub begin-refused : (s : FoldState) → length v ≢ 64 → s ≡ noMessage → Begins v (stepWith s 40)
   unfolding tests
   begin-refused s h e =
       let b = sym (ne-eqb (length v) 64 h) in
@@ -48,7 +47,7 @@ module _ (v : Bytes) where
       record { made = record { number = ap numberIf b; mark = refl; stands = rw (← ap underwayIf b) stands }; refused = λ d. e }
 
   pub begin-done : (s : FoldState) → length v ≡ 64 → flag (s .underway) ≡ true → Hashes s (begunFrom v)
-      → Begins v (record { state = s; number = 0; folded = 0 })
+      → Begins v (stepWith s 0)
   unfolding tests effect
   begin-done s l f h =
       let b = sym (eq-eqb (length v) 64 l) in
@@ -59,12 +58,12 @@ module _ (v : Bytes) where
 
 -- ---- a piece, with any bytes for a state
 
-module _ (s : FoldState) (p : Bytes) (r : FoldStep) where
-  pub any-refused : takes s (length p) ≡ false → r .number ≡ 23 → r .folded ≡ 0 → r .state ≡ s → AnyPiece s p r
-  any-refused e n f k = record { number = n ∙ ap (λ (b : Bool). cond b 0 23) (sym e); mark = f; leaves = λ t. k }
+module _ (s : FoldState) (p : Bytes) where
+  pub any-refused : takes s (length p) ≡ false → AnyPiece s p (stepWith s 23)
+  any-refused e = record { number = ap (λ (b : Bool). cond b 0 23) (sym e); mark = refl; leaves = λ t. refl }
 
-  pub any-taken : takes s (length p) ≡ true → r .number ≡ 0 → r .folded ≡ 0 → AnyPiece s p r
-  any-taken e n f = record { number = n ∙ ap (λ (b : Bool). cond b 0 23) (sym e); mark = f; leaves = λ t. absurd (true≢false (sym e ∙ t)) }
+  pub any-taken : (s′ : FoldState) → takes s (length p) ≡ true → AnyPiece s p (stepWith s′ 0)
+  any-taken s′ e = record { number = ap (λ (b : Bool). cond b 0 23) (sym e); mark = refl; leaves = λ t. absurd (true≢false (sym e ∙ t)) }
 
 -- ---- a state that stands for a message tests what the call tests
 
@@ -98,7 +97,7 @@ module _ (s : FoldState) (u : Underway) (h : StandsFor s u) where
     abbrev pieceNumberIf : Bool → ℕ
     pieceNumberIf fits = answerNumber (cond (not fits) (refused 23) (done 0))
 
-    pub piece-refused : takes s (length p) ≡ false → HandsOn (foldPiece p) u (record { state = s; number = 23; folded = 0 })
+    pub piece-refused : takes s (length p) ≡ false → HandsOn (foldPiece p) u (stepWith s 23)
     unfolding tests
     piece-refused e =
         let b = sym e ∙ takes-is p in
@@ -108,7 +107,7 @@ module _ (s : FoldState) (u : Underway) (h : StandsFor s u) where
         → ((m : List ℕ) → Holds (s .hash) m → Holds (s′ .hash) (m ++ p))
         → s′ .joined ≡ s .joined + length p
         → ((m : List ℕ) → s .joined ≡ length m → take (s .joined) (s .head) ≡ take 12 m → take (s .joined + length p) (s′ .head) ≡ take 12 (m ++ p))
-        → HandsOn (foldPiece p) u (record { state = s′; number = 0; folded = 0 })
+        → HandsOn (foldPiece p) u (stepWith s′ 0)
     unfolding tests effect withPiece
     piece-taken s′ e same hash joined head =
         let b = sym e ∙ takes-is p in

@@ -31,7 +31,7 @@ use Rattle.protocol.proofs.FirstOf.{first-stays, first-goes-on}
 use Rattle.protocol.proofs.Judging.{passes, line}
 use Rattle.protocol.proofs.SignedBytes.{flagged-append}
 use Rattle.signing_pieces.specs.declared.SignState.{SignState}
-use Rattle.signing_pieces.specs.Running.{takes, joinedNumber, StandsFor, noMessage}
+use Rattle.signing_pieces.specs.Running.{takes, joinedNumber, StandsFor, noMessage, stepWith}
 use Rattle.signing_pieces.specs.Contracts.{HandsOn, Begins, Takes}
 
 -- ---- the begin
@@ -64,7 +64,7 @@ no-message-stands =
     }
 
 pub begins : (key own header : Bytes) (mac : Mac) → length key ≡ 16 → own ≡ key
-    → Begins key (record { state = record { key = own; header = header; code = mac; length = 0; begun = 1 }; number = 0; spare = 0 })
+    → Begins key (stepWith (record { key = own; header = header; code = mac; length = 0; begun = 1 }) 0)
 begins key own header mac l e =
     let sixteen = eq-eqb (length key) 16 l in
     record {
@@ -84,7 +84,7 @@ begins key own header mac l e =
       spare = refl;
     }
 
-pub not-begun : (key : Bytes) (s : SignState) → s ≡ noMessage → (length key ≡ 16 → ⊥) → Begins key (record { state = s; number = 40; spare = 0 })
+pub not-begun : (key : Bytes) (s : SignState) → s ≡ noMessage → (length key ≡ 16 → ⊥) → Begins key (stepWith s 40)
 not-begun key s h d =
     let other = ne-eqb (length key) 16 d in
     record {
@@ -121,11 +121,11 @@ module _ (s : SignState) (u : Underway) (h : StandsFor s u) where
     unfolding tests
     piece-number b e = number-lines (pieceTooLong u p ∷ []) 0 ∙ ap (λ (x : Bool). cond (not x) 3 0) (sym takes-is ∙ e)
 
-    pub handed-back : takes s (length p) ≡ false → HandsOn (signPiece p) u (record { state = s; number = 3; spare = 0 })
+    pub handed-back : takes s (length p) ≡ false → HandsOn (signPiece p) u (stepWith s 3)
     handed-back e = record { number = sym (piece-number false e); stands = rw (piece-left false e) h }
 
     pub handed-on : (r : SignState) → takes s (length p) ≡ true → StandsFor r (withPiece p u)
-        → HandsOn (signPiece p) u (record { state = r; number = 0; spare = 0 })
+        → HandsOn (signPiece p) u (stepWith r 0)
     handed-on r e t = record { number = sym (piece-number true e); stands = rw (piece-left true e) t }
 
     takes-begun : takes s (length p) ≡ true → u .begun ≡ true
@@ -266,7 +266,7 @@ module _ (s : SignState) (p : Bytes) (fits : Bool) (e : fits ≡ leb (s .length 
   tested : (b : Bool) → (not (eqb (s .begun) 0) && fits) ≡ b → takes s (length p) ≡ b
   tested b t = ap (λ (x : Bool). not (eqb (s .begun) 0) && x) (sym e) ∙ t
 
-  pub refuses : not (not (eqb (s .begun) 0) && fits) ≡ true → Takes s p (record { state = s; number = 3; spare = 0 })
+  pub refuses : not (not (eqb (s .begun) 0) && fits) ≡ true → Takes s p (stepWith s 3)
   refuses t =
       let none = tested false (not-true (not (eqb (s .begun) 0) && fits) t) in
       record {
@@ -284,7 +284,7 @@ module _ (s : SignState) (p : Bytes) (fits : Bool) (e : fits ≡ leb (s .length 
     inside = leb-true (s .length + length p) longestMessage (and-true (not (eqb (s .begun) 0)) (leb (s .length + length p) longestMessage) goes-in .1)
 
     pub taken : (r : SignState) → ((u : Underway) → StandsFor s u → u .begun ≡ true → StandsFor r (withPiece p u))
-        → Takes s p (record { state = r; number = 0; spare = 0 })
+        → Takes s p (stepWith r 0)
     taken r f =
         record {
           any-number = sym (ap (λ (b : Bool). cond b 0 3) goes-in);

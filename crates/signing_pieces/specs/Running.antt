@@ -14,6 +14,7 @@ use Rattle.protocol.specs.InnerHeader.{isInnerHeader}
 use Rattle.protocol.specs.Signing.{withSignedFlag, withSignature}
 use Rattle.protocol.specs.Pieces.{Underway}
 use Rattle.signing_pieces.specs.declared.SignState.{SignState}
+use Rattle.signing_pieces.specs.declared.SignStep.{SignStep}
 
 -- ---- what any bytes say
 
@@ -46,3 +47,7 @@ pub record StandsFor (s : SignState) (u : Underway) : Type 0 where
 -- the state that a refused begin and a finish hand back: no key is left in it
 unfoldable pub noMessage : SignState
 noMessage = record { key = replicate 16 0; header = replicate 64 0; code = code.nothingTaken; length = 0; begun = 0 }
+
+-- what every call hands back
+abbrev pub stepWith : SignState → ℕ → SignStep
+stepWith s n = record { state = s; number = n; spare = 0 }
