@@ -94,8 +94,8 @@ extern "C" {
 
 #define SMB3SEAL_VERSION_MAJOR 0
 #define SMB3SEAL_VERSION_MINOR 10
-#define SMB3SEAL_VERSION_PATCH 0
-#define SMB3SEAL_VERSION "0.10.0"
+#define SMB3SEAL_VERSION_PATCH 1
+#define SMB3SEAL_VERSION "0.10.1"
 
 /* ---- dialects and ciphers, as MS-SMB2 numbers them */
 
@@ -441,8 +441,8 @@ uint32_t smb3seal_verify(const uint8_t *key, size_t key_len, const uint8_t *mess
  *
  * A state goes in by value and the one to go on with comes back: hand in the latest, and each once. It is the library's: a program stores
  * it and copies it, and never looks inside. It holds the key: wipe it, and every copy, where the message has ended or is given up, as you
- * would the key. Any bytes are a state and get an answer; one of zero bytes has no message, and so has one that a refused begin or any
- * finish handed back: a piece is then 3, and a finish 11.
+ * would the key. Any bytes are a state and get an answer. One of zero bytes has no message, and a refused begin and any finish hand that
+ * one back, in which no key is left: a piece is then 3, and a finish 11.
  *
  * After a refused piece the message goes on without that piece, and a finish is about the rest. That is not the message that the peer sent:
  * give it up.
@@ -461,7 +461,7 @@ struct smb3seal_sign_state {
 struct smb3seal_sign_step {
     struct smb3seal_sign_state state; /* to go on with */
     uint32_t number;                  /* SMB3SEAL_DONE, or why it was refused */
-    uint32_t spare;
+    uint32_t spare;                   /* 0 */
 };
 
 /*

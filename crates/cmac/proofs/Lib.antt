@@ -1,4 +1,5 @@
 pub mod Doubling
 pub mod LastBlock
 pub mod Streaming
+pub mod Beginning
 pub mod Lengths

@@ -18,3 +18,7 @@ pub record Running (E : List ℕ → List ℕ) (chain buffer : List ℕ) (filled
 -- s has taken in the bytes m under the cipher E
 abbrev pub Holds : Mac → (List ℕ → List ℕ) → List ℕ → Type 0
 Holds s E m = Running E (s .chain) (s .buffer) (s .filled) m
+
+-- the state to begin with
+unfoldable pub nothingTaken : Mac
+nothingTaken = record { chain = replicate 16 0; buffer = replicate 16 0; filled = 0 }

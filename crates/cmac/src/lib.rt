@@ -6,12 +6,12 @@ use blocks::at_most_16;
 use last::last_block;
 use runs::copy;
 ghost use mathlib.Core.Path.{_≡_};
-ghost use mathlib.Core.List.{List, [], _++_};
+ghost use mathlib.Core.List.{List, _++_};
 ghost use Prim.Native.Nat.{ℕ};
 ghost use Rattle.aes.specs.Tables.{SubMixTable};
 ghost use Rattle.aes.specs.BlockCipher.{blockCipher};
 ghost use Rattle.cmac.specs.Cmac as spec;
-ghost use Rattle.cmac.specs.Running.{Holds};
+ghost use Rattle.cmac.specs.Running.{Holds, nothingTaken};
 
 // A code under way: the chain over the blocks before the last, and the last one, of which so many bytes are there. The round keys and the
 // table of the cipher are lent to each call.
@@ -25,7 +25,7 @@ pub struct Mac {
 impl Mac {
     // Nothing taken in yet.
     pub fn new() -> Mac
-        ensures { λ r. ⌜ ((E : List ℕ → List ℕ) → Holds r E []) ⌝ }
+        ensures { λ r. ⌜ r ≡ nothingTaken ⌝ }
     {
         let zeros = [0u8; 16];
         Mac {

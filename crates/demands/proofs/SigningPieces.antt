@@ -122,17 +122,17 @@ module _ (key m : Bytes) (size : length key ≡ 16) (short : length m ≤ longes
       ∙ sym (stored-signature s f (suite-sound .signature-length key (withSignature (replicate 16 0) f)) (omega (arith, lf, long)))
       ∙ sym (ap (λ (w : Lent). signatureField (w .message)) (left-done suite (signingUnder key) (onlyMessage m) n e′))
 
-  finishes : (ps : List Bytes) → InPieces key ps u m
-  finishes ps = record { signs = signs-same; signature = signature-same; verifies = verifies-same }
+  finishes : InPieces key u m
+  finishes = record { signs = signs-same; signature = signature-same; verifies = verifies-same }
 
 module _ (key : Bytes) (ps : List Bytes) where
-  from : (s : Underway) → s ≡ under key [] → length key ≡ 16 → InPieces key ps (afterPieces s ps) (joinedNotRefused s ps)
+  from : (s : Underway) → s ≡ under key [] → length key ≡ 16 → InPieces key (afterPieces s ps) (joinedNotRefused s ps)
   from s e size =
       let j = joins key ps [] (omega arith) in
-      rw (e, j .state) (finishes key (joinedNotRefused (under key []) ps) size (j .short) ps)
+      rw (e, j .state) (finishes key (joinedNotRefused (under key []) ps) size (j .short))
 
   in-pieces : (n : ℕ) → answer suite (signBeginning key) (onlyUnderway notBegun) ≡ done n
-      → InPieces key ps (afterPieces (begun key) ps) (joinedNotRefused (begun key) ps)
+      → InPieces key (afterPieces (begun key) ps) (joinedNotRefused (begun key) ps)
   unfolding tests effect
   in-pieces n e =
       from (begun key) (ap (λ (w : Lent). w .underway) (left-done suite (signBeginning key) (onlyUnderway notBegun) n e))

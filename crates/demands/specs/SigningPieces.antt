@@ -30,8 +30,8 @@ abbrev pub joinedNotRefused : Underway → List Bytes → Bytes
 joinedNotRefused u [] = []
 joinedNotRefused u (p ∷ ps) = whenDone (answer suite (signPiece p) (onlyUnderway u)) (λ n. p) [] ++ joinedNotRefused (handedOn u p) ps
 
--- after a begin that was not refused, with the pieces ps; m are the joined bytes of those that were not
-pub record InPieces (key : Bytes) (ps : List Bytes) (u : Underway) (m : Bytes) : Type 0 where
+-- after a begin that was not refused: u is what the pieces left, and m the joined bytes of those that were not refused
+pub record InPieces (key : Bytes) (u : Underway) (m : Bytes) : Type 0 where
   -- what the finish answers is what one signature of m is answered, and the 16 bytes are those that it stores
   pub signs : (place : Bytes) → length place ≡ 16 → answer suite (signFinishing u) (onlySignature place) ≡ answer suite (signingUnder key) (onlyMessage m)
   pub signature : (place : Bytes) (n : ℕ) → length place ≡ 16 → answer suite (signFinishing u) (onlySignature place) ≡ done n
@@ -41,7 +41,7 @@ pub record InPieces (key : Bytes) (ps : List Bytes) (u : Underway) (m : Bytes) :
 
 pub record SigningPieces : Type 0 where
   pub in-pieces : (key : Bytes) (ps : List Bytes) (n : ℕ) → answer suite (signBeginning key) (onlyUnderway notBegun) ≡ done n
-      → InPieces key ps (afterPieces (begun key) ps) (joinedNotRefused (begun key) ps)
+      → InPieces key (afterPieces (begun key) ps) (joinedNotRefused (begun key) ps)
   -- with no message every piece is 3, and a finish 11: one whose begin was refused, or that has ended
   pub no-message : (ps : List Bytes) (w : Lent) → answer suite (verifyFinishing (afterPieces notBegun ps)) w ≡ refused 11
   pub no-signature : (ps : List Bytes) (place : Bytes) → length place ≡ 16

@@ -1,6 +1,6 @@
 -- What a state that stands for a message answers, by the way out that the code takes, and what the state after it stands for.
 -- Assumes nothing.
-use mathlib.Core.Path.{_≡_, refl, sym, ap, _∙_}
+use mathlib.Core.Path.{_≡_, refl, sym, ap, subst, _∙_}
 use mathlib.Core.Logic.{_≢_}
 use mathlib.Core.Bool.{Bool, true, false, cond, not, _&&_, true≢false}
 use mathlib.Core.List.{List, [], _++_, append-assoc}
@@ -18,13 +18,13 @@ use Rattle.protocol.specs.Calls.{foldBeginning, foldPiece, Lent, onlyUnderway, 
 use Rattle.protocol.specs.Suite.{suite}
 use Rattle.connection.specs.Reading.{flag}
 use Rattle.fold_pieces.specs.declared.FoldState.{FoldState}
-use Rattle.fold_pieces.specs.declared.FoldStep.{FoldStep}
-use Rattle.fold_pieces.specs.State.{Hashes, StandsFor, takes, ends}
-use Rattle.fold_pieces.specs.Contracts.{HandsOn, AnyPiece}
+use Rattle.fold_pieces.specs.State.{Hashes, StandsFor, noMessage, stepWith, takes, ends}
+use Rattle.fold_pieces.specs.Contracts.{HandsOn, Begins, AnyPiece}
 
 -- no message: what the hash holds does not count
-pub stands-ended : (s : FoldState) → flag (s .underway) ≡ false → StandsFor s notBegun
-stands-ended s e = record { same-begun = e; hashes = λ b. absurd (true≢false (sym b)) }
+pub no-message : StandsFor noMessage notBegun
+unfolding noMessage
+no-message = record { same-begun = refl; hashes = λ b. absurd (true≢false (sym b)) }
 
 -- ---- beginning
 
@@ -39,26 +39,31 @@ module _ (v : Bytes) where
   abbrev numberIf : Bool → ℕ
   numberIf fits = answerNumber (cond (not fits) (refused 40) (done 0))
 
-  pub begin-refused : (s : FoldState) → length v ≢ 64 → StandsFor s notBegun → HandsOn (foldBeginning v) notBegun 40 s
+  pub begin-refused : (s : FoldState) → length v ≢ 64 → s ≡ noMessage → Begins v (stepWith s 40)
   unfolding tests
   begin-refused s h e =
       let b = sym (ne-eqb (length v) 64 h) in
-      record { number = ap numberIf b; stands = rw (← ap underwayIf b) e }
+      let stands : StandsFor s notBegun = subst (λ (x : FoldState). StandsFor x notBegun) (sym e) no-message in
+      record { made = record { number = ap numberIf b; mark = refl; stands = rw (← ap underwayIf b) stands }; refused = λ d. e }
 
-  pub begin-done : (s : FoldState) → length v ≡ 64 → flag (s .underway) ≡ true → Hashes s (begunFrom v) → HandsOn (foldBeginning v) notBegun 0 s
+  pub begin-done : (s : FoldState) → length v ≡ 64 → flag (s .underway) ≡ true → Hashes s (begunFrom v)
+      → Begins v (stepWith s 0)
   unfolding tests effect
   begin-done s l f h =
       let b = sym (eq-eqb (length v) 64 l) in
-      record { number = ap numberIf b; stands = rw (← ap underwayIf b) (record { same-begun = f; hashes = λ e. h }) }
+      record {
+        made = record { number = ap numberIf b; mark = refl; stands = rw (← ap underwayIf b) (record { same-begun = f; hashes = λ e. h }) };
+        refused = λ d. absurd (d l);
+      }
 
 -- ---- a piece, with any bytes for a state
 
-module _ (s : FoldState) (p : Bytes) (r : FoldStep) where
-  pub any-refused : takes s (length p) ≡ false → r .number ≡ 23 → r .state ≡ s → AnyPiece s p r
-  any-refused e n k = record { number = n ∙ ap (λ (b : Bool). cond b 0 23) (sym e); leaves = λ f. k }
+module _ (s : FoldState) (p : Bytes) where
+  pub any-refused : takes s (length p) ≡ false → AnyPiece s p (stepWith s 23)
+  any-refused e = record { number = ap (λ (b : Bool). cond b 0 23) (sym e); mark = refl; leaves = λ t. refl }
 
-  pub any-taken : takes s (length p) ≡ true → r .number ≡ 0 → AnyPiece s p r
-  any-taken e n = record { number = n ∙ ap (λ (b : Bool). cond b 0 23) (sym e); leaves = λ f. absurd (true≢false (sym e ∙ f)) }
+  pub any-taken : (s′ : FoldState) → takes s (length p) ≡ true → AnyPiece s p (stepWith s′ 0)
+  any-taken s′ e = record { number = ap (λ (b : Bool). cond b 0 23) (sym e); mark = refl; leaves = λ t. absurd (true≢false (sym e ∙ t)) }
 
 -- ---- a state that stands for a message tests what the call tests
 
@@ -92,21 +97,25 @@ module _ (s : FoldState) (u : Underway) (h : StandsFor s u) where
     abbrev pieceNumberIf : Bool → ℕ
     pieceNumberIf fits = answerNumber (cond (not fits) (refused 23) (done 0))
 
-    pub piece-refused : takes s (length p) ≡ false → HandsOn (foldPiece p) u 23 s
+    pub piece-refused : takes s (length p) ≡ false → HandsOn (foldPiece p) u (stepWith s 23)
     unfolding tests
     piece-refused e =
         let b = sym e ∙ takes-is p in
-        record { number = ap pieceNumberIf b; stands = rw (← ap afterIf b) h }
+        record { number = ap pieceNumberIf b; mark = refl; stands = rw (← ap afterIf b) h }
 
     pub piece-taken : (s′ : FoldState) → takes s (length p) ≡ true → s′ .underway ≡ s .underway
         → ((m : List ℕ) → Holds (s .hash) m → Holds (s′ .hash) (m ++ p))
         → s′ .joined ≡ s .joined + length p
         → ((m : List ℕ) → s .joined ≡ length m → take (s .joined) (s .head) ≡ take 12 m → take (s .joined + length p) (s′ .head) ≡ take 12 (m ++ p))
-        → HandsOn (foldPiece p) u 0 s′
+        → HandsOn (foldPiece p) u (stepWith s′ 0)
     unfolding tests effect withPiece
     piece-taken s′ e same hash joined head =
         let b = sym e ∙ takes-is p in
-        record { number = ap pieceNumberIf b; stands = rw (← ap afterIf b) (record { same-begun = ap flag same ∙ h .same-begun; hashes = hashes }) }
+        record {
+          number = ap pieceNumberIf b;
+          mark = refl;
+          stands = rw (← ap afterIf b) (record { same-begun = ap flag same ∙ h .same-begun; hashes = hashes });
+        }
       where
         hashes : u .begun ≡ true → Hashes s′ (withPiece p u)
         hashes t =

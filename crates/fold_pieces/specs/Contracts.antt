@@ -1,11 +1,10 @@
 -- What the functions promise. Of a state that stands for a message under way: what its call answers and leaves. Of any other bytes, which
--- the papers leave free: the number, and that a refusal changes nothing.
+-- the papers leave free: the number, the mark, that a refusal changes nothing, and which state a finish hands back.
 -- Assumes nothing.
 use mathlib.Core.Path.{_≡_}
 use mathlib.Core.Logic.{_≢_}
 use mathlib.Core.Bool.{Bool, true, false, cond, not}
 use mathlib.Core.List.{[], _∷_}
-use Prim.Native.Nat.{ℕ}
 use lib.Dec.{eqb}
 use lib.ListN.{length}
 use Rattle.protocol.specs.Bytes.{Bytes}
@@ -13,28 +12,35 @@ use Rattle.protocol.specs.Answer.{Answer, done, answerNumber, carried, refuse_w
 use Rattle.protocol.specs.Preauth.{FoldKind, admitted, statusAllows}
 use Rattle.protocol.specs.Pieces.{Underway, notBegun, messageOf}
 use Rattle.protocol.specs.Refusals.{badLength}
-use Rattle.protocol.specs.Calls.{Call, foldFinishing, onlyUnderway, chainAndUnderway, answer, left}
+use Rattle.protocol.specs.Calls.{Call, foldBeginning, foldFinishing, onlyUnderway, chainAndUnderway, answer, left}
 use Rattle.protocol.specs.Contract.{Makes}
 use Rattle.protocol.specs.Suite.{suite}
 use Rattle.fold_pieces.specs.declared.FoldState.{FoldState}
 use Rattle.fold_pieces.specs.declared.FoldStep.{FoldStep}
-use Rattle.fold_pieces.specs.State.{StandsFor, takes, ends}
+use Rattle.fold_pieces.specs.State.{StandsFor, noMessage, takes, ends}
 
--- a call that is handed what stands for u answers with the number n, and hands the state s on
-pub record HandsOn (c : Call) (u : Underway) (n : ℕ) (s : FoldState) : Type 0 where
-  pub number : n ≡ answerNumber (answer suite c (onlyUnderway u))
-  pub stands : StandsFor s ((left suite c (onlyUnderway u)) .underway)
+-- a call that is handed what stands for u answers, and hands the state on; it has folded nothing
+pub record HandsOn (c : Call) (u : Underway) (r : FoldStep) : Type 0 where
+  pub number : r .number ≡ answerNumber (answer suite c (onlyUnderway u))
+  pub mark : r .folded ≡ 0
+  pub stands : StandsFor (r .state) ((left suite c (onlyUnderway u)) .underway)
+
+-- a begin from the value v
+pub record Begins (v : Bytes) (r : FoldStep) : Type 0 where
+  pub made : HandsOn (foldBeginning v) notBegun r
+  pub refused : length v ≢ 64 → r .state ≡ noMessage
 
 -- the piece p, with the state s
 pub record AnyPiece (s : FoldState) (p : Bytes) (r : FoldStep) : Type 0 where
   pub number : r .number ≡ cond (takes s (length p)) 0 23
+  pub mark : r .folded ≡ 0
   pub leaves : takes s (length p) ≡ false → r .state ≡ s
 
--- a finish hands back a state with no message, whatever it answers
+-- a finish hands back the state with no message, whatever it answers
 pub record FinishedAs (r : FoldStep) (a : Answer) : Type 0 where
   pub number : r .number ≡ answerNumber a
   pub mark : r .folded ≡ carried a 0
-  pub ended : StandsFor (r .state) notBegun
+  pub ended : r .state ≡ noMessage
 
 -- a finish into the value v, with the state s and a status that allows it or not
 abbrev pub endAnswer : FoldState → Bool → Bytes → Answer

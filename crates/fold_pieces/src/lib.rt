@@ -5,14 +5,14 @@ use sha512::Sha512;
 ghost use mathlib.Core.Path.{_≡_};
 ghost use mathlib.Core.Bool.{true};
 ghost use mathlib.Core.List.{List, _++_};
-ghost use Prim.Native.Nat.{ℕ, _+_};
+ghost use Prim.Native.Nat.{ℕ, _+_, min};
 ghost use lib.ListN.{length, take};
 ghost use Rattle.protocol.specs.Preauth.{negotiateMessage, setupRequest, setupResponse, moreProcessing};
-ghost use Rattle.protocol.specs.Pieces.{Underway, notBegun};
-ghost use Rattle.protocol.specs.Calls.{foldBeginning, foldPiece};
+ghost use Rattle.protocol.specs.Pieces.{Underway};
+ghost use Rattle.protocol.specs.Calls.{foldPiece};
 ghost use Rattle.preauth.specs.Reading.{foldAnswerOf};
-ghost use Rattle.fold_pieces.specs.State.{StandsFor};
-ghost use Rattle.fold_pieces.specs.Contracts.{HandsOn, AnyPiece, FinishedAs, Closes, AnyFinish, Finishes};
+ghost use Rattle.fold_pieces.specs.State.{StandsFor, noMessage, stepWith};
+ghost use Rattle.fold_pieces.specs.Contracts.{HandsOn, Begins, AnyPiece, FinishedAs, Closes, AnyFinish, Finishes};
 
 // struct smb3seal_fold_state: the hash of the value begun from and of the bytes joined so far, how many these are, and the first twelve of
 // them, which end with the status. Any bytes are a state; no message is under way where `underway` is 0.
@@ -35,7 +35,7 @@ pub struct FoldStep {
 
 // No message under way.
 fn ended() -> FoldState
-    ensures { λ r. ⌜ StandsFor r notBegun ⌝ }
+    ensures { λ r. ⌜ r ≡ noMessage ⌝ }
 {
     FoldState {
         hash: Sha512::new(),
@@ -46,16 +46,23 @@ fn ended() -> FoldState
     }
 }
 
+// What a begin and a piece hand back: they fold nothing yet.
+fn step(state: FoldState, number: u32) -> FoldStep
+    ensures { λ r. ⌜ r ≡ stepWith state number ⌝ }
+{
+    FoldStep {
+        state: state,
+        number: number,
+        folded: 0,
+    }
+}
+
 // A message begins from the chain value.
 pub fn begin(chain: &[u8]) -> FoldStep
-    ensures { λ r. ⌜ HandsOn (foldBeginning (now (chain .entry))) notBegun (r .number) (r .state) ⌝ }
+    ensures { λ r. ⌜ Begins (now (chain .entry)) r ⌝ }
 {
     if chain.len() != 64 {
-        return FoldStep {
-            state: ended(),
-            number: 40,
-            folded: 0,
-        };
+        return step(ended(), 40);
     }
     let state = FoldState {
         hash: Sha512::new().update(chain),
@@ -64,11 +71,13 @@ pub fn begin(chain: &[u8]) -> FoldStep
         underway: 1,
         spare: [0u8; 3],
     };
-    FoldStep {
-        state: state,
-        number: 0,
-        folded: 0,
-    }
+    step(state, 0)
+}
+
+fn at_most(n: usize, limit: usize) -> usize
+    ensures { λ r. ⌜ r ≡ min n limit ⌝ }
+{
+    if n < limit { n } else { limit }
 }
 
 // The first twelve bytes of what is joined, with the piece behind it.
@@ -76,17 +85,10 @@ fn head_with(head: [u8; 12], joined: u64, piece: &[u8]) -> [u8; 12]
     ensures { λ r. ⌜ ((m : List ℕ) → joined ≡ length m → take joined head ≡ take 12 m
         → take (joined + length (now (piece .entry))) r ≡ take 12 (m ++ now (piece .entry))) ⌝ }
 {
-    if 12 <= joined {
-        return head;
-    }
-    let at = joined as usize;
-    let room = 12 - at;
     let mut kept = head;
-    if piece.len() < room {
-        copy(&mut kept, at, piece);
-        return kept;
-    }
-    copy(&mut kept, at, &piece[..room]);
+    let at = at_most(joined as usize, 12);
+    let n = at_most(piece.len(), 12 - at);
+    copy(&mut kept, at, &piece[..n]);
     kept
 }
 
@@ -94,15 +96,11 @@ impl FoldState {
     // The piece follows what is joined, unless it would pass the limit: then the state stays as it is.
     pub fn piece(self, piece: &[u8]) -> FoldStep
         ensures { λ r. ⌜ AnyPiece self (now (piece .entry)) r
-            × ((u : Underway) → StandsFor self u → HandsOn (foldPiece (now (piece .entry))) u (r .number) (r .state)) ⌝ }
+            × ((u : Underway) → StandsFor self u → HandsOn (foldPiece (now (piece .entry))) u r) ⌝ }
     {
         let joined = self.joined;
         if !((self.underway != 0) & connection::fits(joined, piece.len())) {
-            return FoldStep {
-                state: self,
-                number: 23,
-                folded: 0,
-            };
+            return step(self, 23);
         }
         let hash = self.hash;
         let head = self.head;
@@ -114,11 +112,7 @@ impl FoldState {
             underway: self.underway,
             spare: spare,
         };
-        FoldStep {
-            state: state,
-            number: 0,
-            folded: 0,
-        }
+        step(state, 0)
     }
 
     // One fold of what is joined, if its status allows it. The status of a message that 23 refuses counts for nothing.
@@ -160,7 +154,7 @@ impl FoldState {
     }
 }
 
-// What a finish hands back: a state with no message, whatever it answers.
+// What a finish hands back: the state with no message, whatever it answers.
 fn finished(a: FoldAnswer) -> FoldStep
     ensures { λ r. ⌜ FinishedAs r (foldAnswerOf a) ⌝ }
 {

@@ -8,10 +8,10 @@ use native.Mathlib.Omega.{arith}
 use lib.ListN.{length, getD, take, drop, set, length-set}
 use lib.Seq.{paste}
 use Rattle.octets.specs.Numbers.{bigEndian, toBigEndian, bytesAt}
-use Rattle.sha2.specs.Sha2.{Sha2, Working, blockSize, parse, extended, round, rounds, compress, hashBlocks, digest}
+use Rattle.sha2.specs.Sha2.{Sha2, Working, blockSize, parse, extended, rounds, compress, hashBlocks, digest}
 use Rattle.sha2.specs.Running.{Going, Goes}
 use Rattle.sha2.proofs.Words.{parse-turn, digest-turn, digest-done}
-use Rattle.sha2.proofs.Rounds.{goes-start, goes-full, round-more}
+use Rattle.sha2.proofs.Rounds.{goes-start, goes-full}
 use Rattle.sha2.proofs.Blocks.{blocks-turn}
 
 -- ---- the words of a block, one a turn
@@ -76,59 +76,29 @@ module _ (p : Sha2) where
       let g = goes-full p (take 16 w₀) w x v j (s .size) e (s .going) in
       (s .size, g .0, g .1)
 
--- ---- the last sixteen rounds, one a turn
-
-pub record Last (p : Sha2) (w k : List ℕ) (v₀ v : Working) (j : ℕ) : Type 0 where
-  pub bound : j ≤ 16 + p .further
-  pub size : length w ≡ 16 + p .further
-  pub constants : k ≡ p .constants
-  pub state : (x : Working) → v₀ ≡ rounds p w (p .further) x → v ≡ rounds p w j x
-
-module _ (p : Sha2) where
-  pub last-start : (w k : List ℕ) (v : Working) → length w ≡ 16 + p .further → k ≡ p .constants → Last p w k v v (p .further)
-  last-start w k v e ek = record { bound = omega arith; size = e; constants = ek; state = λ x h. h }
-
-  pub last-turn : {w k : List ℕ} {v₀ v v′ : Working} {j : ℕ} → Last p w k v₀ v j → j < 16 + p .further
-      → v′ ≡ round p (getD k j 0) (getD w j 0) v → Last p w k v₀ v′ (j + 1)
-  last-turn {w} {k} {v₀} {v} {v′} {j} s h e =
-      record {
-        bound = omega arith;
-        size = s .size;
-        constants = s .constants;
-        state = λ x h. round-more p w k j v v′ x (s .state x h) (s .constants) e;
-      }
-
-  pub last-end : {w k : List ℕ} {v₀ v : Working} {j : ℕ} → Last p w k v₀ v j → 16 + p .further ≤ j
-      → (x : Working) → v₀ ≡ rounds p w (p .further) x → v ≡ rounds p w (16 + p .further) x
-  last-end {w} {k} {v₀} {v} {j} s h x e =
-      let q : j ≡ 16 + p .further = omega (arith, s .bound) in
-      s .state x e ∙ ap (λ (i : ℕ). rounds p w i x) q
-
 -- ---- the whole blocks of a byte string, one a turn
 
-pub record Taking (p : Sha2) (hs m k : List ℕ) (n : ℕ) (h : List ℕ) (i : ℕ) : Type 0 where
+pub record Taking (p : Sha2) (hs m : List ℕ) (n : ℕ) (h : List ℕ) (i : ℕ) : Type 0 where
   pub bound : i ≤ n
   pub count : n ≡ length m / blockSize p
-  pub constants : k ≡ p .constants
   pub value : h ≡ hashBlocks p hs i m
 
 module _ (p : Sha2) where
-  pub taking-start : (hs m k : List ℕ) → k ≡ p .constants → Taking p hs m k (length m / blockSize p) hs 0
+  pub taking-start : (hs m : List ℕ) → Taking p hs m (length m / blockSize p) hs 0
   unfolding hashBlocks
-  taking-start hs m k ek = record { bound = omega arith; count = refl; constants = ek; value = refl }
+  taking-start hs m = record { bound = omega arith; count = refl; value = refl }
 
-  pub taking-turn : {hs m k h h′ : List ℕ} {n i : ℕ} → Taking p hs m k n h i → i < n
-      → h′ ≡ compress p h (take (i * blockSize p + blockSize p - i * blockSize p) (drop (i * blockSize p) m)) → Taking p hs m k n h′ (i + 1)
-  taking-turn {hs} {m} {k} {h} {h′} {n} {i} s l e =
+  pub taking-turn : {hs m h h′ : List ℕ} {n i : ℕ} → Taking p hs m n h i → i < n
+      → h′ ≡ compress p h (take (i * blockSize p + blockSize p - i * blockSize p) (drop (i * blockSize p) m)) → Taking p hs m n h′ (i + 1)
+  taking-turn {hs} {m} {h} {h′} {n} {i} s l e =
       record {
         bound = omega arith;
         count = s .count;
-        constants = s .constants;
         value = blocks-turn p hs m h h′ i (i * blockSize p) (s .value) refl e;
       }
 
-  pub taking-end : {hs m k h : List ℕ} {n i : ℕ} → Taking p hs m k n h i → n ≤ i → h ≡ hashBlocks p hs (length m / blockSize p) m
-  taking-end {hs} {m} {k} {h} {n} {i} s l =
+  pub taking-end : {hs m h : List ℕ} {n i : ℕ} → Taking p hs m n h i → n ≤ i → h ≡ hashBlocks p hs (length m / blockSize p) m
+  taking-end {hs} {m} {h} {n} {i} s l =
       let e : i ≡ n = omega (arith, s .bound) in
       s .value ∙ ap (λ (j : ℕ). hashBlocks p hs j m) (e ∙ s .count)
 

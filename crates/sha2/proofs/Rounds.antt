@@ -50,10 +50,16 @@ module _ (p : Sha2) where
       ∙ ap (λ (n : ℕ). getD (extended p n m) j 0) q
 
   -- a round more
-  pub round-more : (ws constants : List ℕ) (j : ℕ) (v v′ x : Working) → v ≡ rounds p ws j x → constants ≡ p .constants
+  round-more : (ws constants : List ℕ) (j : ℕ) (v v′ x : Working) → v ≡ rounds p ws j x → constants ≡ p .constants
       → v′ ≡ round p (getD constants j 0) (getD ws j 0) v → v′ ≡ rounds p ws (j + 1) x
   unfolding rounds
   round-more ws constants j v v′ x ev ek e = e ∙ rw (add-one, ev, ek)
+
+  -- two rounds more
+  pub two-more : (ws : List ℕ) (j : ℕ) {constants : List ℕ} {v v′ v″ : Working} → constants ≡ p .constants → v′ ≡ round p (getD constants j 0) (getD ws j 0) v
+      → v″ ≡ round p (getD constants (j + 1) 0) (getD ws (j + 1) 0) v′ → (x : Working) → v ≡ rounds p ws j x → v″ ≡ rounds p ws (j + 2) x
+  two-more ws j {constants} {v} {v′} {v″} ek e₁ e₂ x e =
+      round-more ws constants (j + 1) v′ v″ x (round-more ws constants j v v′ x e ek e₁) ek e₂ ∙ ap (λ (i : ℕ). rounds p ws i x) (add-assoc j 1 1)
 
   -- round j, and the word of the schedule sixteen places on
   pub goes-one : {constants w : List ℕ} {j y : ℕ} {v v′ : Working} → j < p .further → length w ≡ 16 + p .further → constants ≡ p .constants

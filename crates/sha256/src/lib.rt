@@ -6,7 +6,6 @@ use padding::padded;
 use padding::padded_length;
 use runs::copy;
 use sha256_compression::constants::initial_hash_value;
-use sha256_compression::constants::round_constants;
 use sha256_compression::hash_blocks;
 use std::num::wrapping_add_u64;
 ghost use mathlib.Core.Path.{_≡_};
@@ -54,15 +53,13 @@ impl Sha256 {
                 count: count,
             };
         }
-        let k = round_constants();
         copy(&mut buffer, n, &piece[..room]);
-        let first = hash_blocks(hash, &buffer, &k);
+        let first = hash_blocks(hash, &buffer);
         let rest = &piece[room..];
-        let last = hash_blocks(first, rest, &k);
         let whole = rest.len() / 64 * 64;
         copy(&mut buffer, 0, &rest[whole..]);
         Sha256 {
-            hash: last,
+            hash: hash_blocks(first, rest),
             buffer: buffer,
             count: count,
         }
@@ -78,8 +75,7 @@ impl Sha256 {
         let n = (count % 64) as usize;
         let end = padded_length(n, count);
         let t = padded(&buffer[..n], count, end);
-        let k = round_constants();
-        digest(hash_blocks(hash, &t[..end], &k))
+        digest(hash_blocks(hash, &t[..end]))
     }
 }
 

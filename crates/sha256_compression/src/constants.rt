@@ -1,4 +1,4 @@
-// The values of SHA-256. Each use of a constant array writes it out again, so callers bind it once and lend it.
+// The values of SHA-256.
 ghost use mathlib.Core.Path.{_≡_};
 ghost use Rattle.sha2.specs.Sha256.{constants256, initial256};
 

@@ -3,6 +3,7 @@ pub mod constants;
 mod functions;
 mod rounds;
 
+use crate::constants::round_constants;
 use crate::rounds::Working;
 use crate::rounds::first_rounds;
 use crate::rounds::last_rounds;
@@ -12,7 +13,7 @@ ghost use mathlib.Core.Path.{_≡_};
 ghost use Prim.Native.Nat.{_/_};
 ghost use lib.ListN.{length, take};
 ghost use Rattle.sha2.specs.Sha2 as sha2;
-ghost use Rattle.sha2.specs.Sha256.{sha256, constants256};
+ghost use Rattle.sha2.specs.Sha256.{sha256};
 ghost use Rattle.sha256_compression.specs.Code.{of};
 
 // The sixteen words of a block (§5.2.1).
@@ -58,19 +59,20 @@ fn sums(hs: [u32; 8], v: Working) -> [u32; 8]
     [a, b, c, d, e, f, g, h]
 }
 
-fn compress(hs: [u32; 8], block: &[u8], k: &[u32; 64]) -> [u32; 8]
-    requires { ⌜ (length (now block) ≡ 64) × (now k ≡ constants256) ⌝ }
+// The constants are bound here, where every index is known once the rounds are inlined: then they are operands, and no array is written.
+fn compress(hs: [u32; 8], block: &[u8]) -> [u32; 8]
+    requires { ⌜ length (now block) ≡ 64 ⌝ }
     ensures { λ r. ⌜ r ≡ sha2.compress sha256 hs (now (block .entry)) ⌝ }
 {
+    let k = round_constants();
     let mut w = [0u32; 64];
     parse(&mut w, block);
-    let v = first_rounds(working(hs), &mut w, k);
-    sums(hs, last_rounds(v, &w, k))
+    let v = first_rounds(working(hs), &mut w, &k);
+    sums(hs, last_rounds(v, &w, &k))
 }
 
 // The whole blocks of m.
-pub fn hash_blocks(hs: [u32; 8], m: &[u8], k: &[u32; 64]) -> [u32; 8]
-    requires { ⌜ now k ≡ constants256 ⌝ }
+pub fn hash_blocks(hs: [u32; 8], m: &[u8]) -> [u32; 8]
     ensures { λ r. ⌜ r ≡ sha2.hashBlocks sha256 hs (length (now (m .entry)) / 64) (now (m .entry)) ⌝ }
 {
     let mut h = hs;
@@ -78,7 +80,7 @@ pub fn hash_blocks(hs: [u32; 8], m: &[u8], k: &[u32; 64]) -> [u32; 8]
     let mut i: usize = 0;
     while i < n {
         let at = i * 64;
-        let g = compress(h, &m[at..at + 64], k);
+        let g = compress(h, &m[at..at + 64]);
         h = g;
         i += 1;
     }

@@ -122,16 +122,26 @@ pub fn first_rounds(s: Working, w: &mut [u32; 64], k: &[u32; 64]) -> Working
     v
 }
 
-// The last sixteen rounds.
+// Rounds j and j + 1, once the schedule is complete.
+fn two_last_rounds(v: Working, w: &[u32; 64], k: &[u32; 64], j: usize) -> Working
+    requires { ⌜ (j + 2 ≤ 64) × (length (now w) ≡ 64) × (now k ≡ constants256) ⌝ }
+    ensures { λ r. ⌜ ((x : sha2.Working) → of v ≡ sha2.rounds sha256 (now (w .entry)) j x → of r ≡ sha2.rounds sha256 (now (w .entry)) (j + 2) x) ⌝ }
+{
+    let half = round(v, k[j], w[j]);
+    round(half, k[j + 1], w[j + 1])
+}
+
+// The last sixteen rounds, without a loop: an index that varies would keep the constants in an array, written out for each block.
 pub fn last_rounds(s: Working, w: &[u32; 64], k: &[u32; 64]) -> Working
     requires { ⌜ (length (now w) ≡ 64) × (now k ≡ constants256) ⌝ }
     ensures { λ r. ⌜ ((x : sha2.Working) → of s ≡ sha2.rounds sha256 (now (w .entry)) 48 x → of r ≡ sha2.rounds sha256 (now (w .entry)) 64 x) ⌝ }
 {
-    let mut v = s;
-    let mut j: usize = 48;
-    while j < 64 {
-        v = round(v, k[j], w[j]);
-        j += 1;
-    }
-    v
+    let v1 = two_last_rounds(s, w, k, 48);
+    let v2 = two_last_rounds(v1, w, k, 50);
+    let v3 = two_last_rounds(v2, w, k, 52);
+    let v4 = two_last_rounds(v3, w, k, 54);
+    let v5 = two_last_rounds(v4, w, k, 56);
+    let v6 = two_last_rounds(v5, w, k, 58);
+    let v7 = two_last_rounds(v6, w, k, 60);
+    two_last_rounds(v7, w, k, 62)
 }

@@ -6,16 +6,15 @@ use padding::padded;
 use padding::padded_length;
 use runs::copy;
 use sha512_compression::constants::initial_hash_value;
-use sha512_compression::constants::round_constants;
 use sha512_compression::hash_blocks;
 use std::num::wrapping_add_u64;
 ghost use mathlib.Core.Path.{_≡_};
-ghost use mathlib.Core.List.{List, [], _++_};
+ghost use mathlib.Core.List.{List, _++_};
 ghost use Prim.Native.Nat.{ℕ, _<_, _^_};
 ghost use lib.ListN.{length};
 ghost use Rattle.sha2.specs.Sha2 as sha2;
 ghost use Rattle.sha2.specs.Sha512.{sha512};
-ghost use Rattle.sha512.specs.Code.{Holds};
+ghost use Rattle.sha512.specs.Code.{Holds, nothingTaken};
 
 // A hash under way: the hash value after the whole blocks, the bytes past them, and how many bytes there were, modulo 2^64.
 #[repr(C)]
@@ -28,7 +27,7 @@ pub struct Sha512 {
 impl Sha512 {
     // Nothing taken in yet.
     pub fn new() -> Sha512
-        ensures { λ r. ⌜ Holds r [] ⌝ }
+        ensures { λ r. ⌜ r ≡ nothingTaken ⌝ }
     {
         let hash = initial_hash_value();
         let buffer = [0u8; 128];
@@ -56,15 +55,13 @@ impl Sha512 {
                 count: count,
             };
         }
-        let k = round_constants();
         copy(&mut buffer, n, &piece[..room]);
-        let first = hash_blocks(hash, &buffer, &k);
+        let first = hash_blocks(hash, &buffer);
         let rest = &piece[room..];
-        let last = hash_blocks(first, rest, &k);
         let whole = rest.len() / 128 * 128;
         copy(&mut buffer, 0, &rest[whole..]);
         Sha512 {
-            hash: last,
+            hash: hash_blocks(first, rest),
             buffer: buffer,
             count: count,
         }
@@ -80,8 +77,7 @@ impl Sha512 {
         let n = (count % 128) as usize;
         let end = padded_length(n, count);
         let t = padded(&buffer[..n], count, end);
-        let k = round_constants();
-        digest(hash_blocks(hash, &t[..end], &k))
+        digest(hash_blocks(hash, &t[..end]))
     }
 }
 

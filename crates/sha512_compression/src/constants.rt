@@ -1,4 +1,4 @@
-// The values of SHA-512. Each use of a constant array writes it out again, so callers bind it once and lend it.
+// The values of SHA-512.
 ghost use mathlib.Core.Path.{_≡_};
 ghost use Rattle.sha2.specs.Sha512.{constants512, initial512};
 

@@ -3,6 +3,7 @@ pub mod constants;
 mod functions;
 mod rounds;
 
+use crate::constants::round_constants;
 use crate::rounds::Working;
 use crate::rounds::first_rounds;
 use crate::rounds::last_rounds;
@@ -12,7 +13,7 @@ ghost use mathlib.Core.Path.{_≡_};
 ghost use Prim.Native.Nat.{_/_};
 ghost use lib.ListN.{length, take};
 ghost use Rattle.sha2.specs.Sha2 as sha2;
-ghost use Rattle.sha2.specs.Sha512.{sha512, constants512};
+ghost use Rattle.sha2.specs.Sha512.{sha512};
 ghost use Rattle.sha512_compression.specs.Code.{of};
 
 // The sixteen words of a block (§5.2.2).
@@ -58,19 +59,20 @@ fn sums(hs: [u64; 8], v: Working) -> [u64; 8]
     [a, b, c, d, e, f, g, h]
 }
 
-fn compress(hs: [u64; 8], block: &[u8], k: &[u64; 80]) -> [u64; 8]
-    requires { ⌜ (length (now block) ≡ 128) × (now k ≡ constants512) ⌝ }
+// The constants are bound here, where every index is known once the rounds are inlined: then they are operands, and no array is written.
+fn compress(hs: [u64; 8], block: &[u8]) -> [u64; 8]
+    requires { ⌜ length (now block) ≡ 128 ⌝ }
     ensures { λ r. ⌜ r ≡ sha2.compress sha512 hs (now (block .entry)) ⌝ }
 {
+    let k = round_constants();
     let mut w = [0u64; 80];
     parse(&mut w, block);
-    let v = first_rounds(working(hs), &mut w, k);
-    sums(hs, last_rounds(v, &w, k))
+    let v = first_rounds(working(hs), &mut w, &k);
+    sums(hs, last_rounds(v, &w, &k))
 }
 
 // The whole blocks of m.
-pub fn hash_blocks(hs: [u64; 8], m: &[u8], k: &[u64; 80]) -> [u64; 8]
-    requires { ⌜ now k ≡ constants512 ⌝ }
+pub fn hash_blocks(hs: [u64; 8], m: &[u8]) -> [u64; 8]
     ensures { λ r. ⌜ r ≡ sha2.hashBlocks sha512 hs (length (now (m .entry)) / 128) (now (m .entry)) ⌝ }
 {
     let mut h = hs;
@@ -78,7 +80,7 @@ pub fn hash_blocks(hs: [u64; 8], m: &[u8], k: &[u64; 80]) -> [u64; 8]
     let mut i: usize = 0;
     while i < n {
         let at = i * 128;
-        let g = compress(h, &m[at..at + 128], k);
+        let g = compress(h, &m[at..at + 128]);
         h = g;
         i += 1;
     }

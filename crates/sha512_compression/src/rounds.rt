@@ -122,16 +122,26 @@ pub fn first_rounds(s: Working, w: &mut [u64; 80], k: &[u64; 80]) -> Working
     v
 }
 
-// The last sixteen rounds.
+// Rounds j and j + 1, once the schedule is complete.
+fn two_last_rounds(v: Working, w: &[u64; 80], k: &[u64; 80], j: usize) -> Working
+    requires { ⌜ (j + 2 ≤ 80) × (length (now w) ≡ 80) × (now k ≡ constants512) ⌝ }
+    ensures { λ r. ⌜ ((x : sha2.Working) → of v ≡ sha2.rounds sha512 (now (w .entry)) j x → of r ≡ sha2.rounds sha512 (now (w .entry)) (j + 2) x) ⌝ }
+{
+    let half = round(v, k[j], w[j]);
+    round(half, k[j + 1], w[j + 1])
+}
+
+// The last sixteen rounds, without a loop: an index that varies would keep the constants in an array, written out for each block.
 pub fn last_rounds(s: Working, w: &[u64; 80], k: &[u64; 80]) -> Working
     requires { ⌜ (length (now w) ≡ 80) × (now k ≡ constants512) ⌝ }
     ensures { λ r. ⌜ ((x : sha2.Working) → of s ≡ sha2.rounds sha512 (now (w .entry)) 64 x → of r ≡ sha2.rounds sha512 (now (w .entry)) 80 x) ⌝ }
 {
-    let mut v = s;
-    let mut j: usize = 64;
-    while j < 80 {
-        v = round(v, k[j], w[j]);
-        j += 1;
-    }
-    v
+    let v1 = two_last_rounds(s, w, k, 64);
+    let v2 = two_last_rounds(v1, w, k, 66);
+    let v3 = two_last_rounds(v2, w, k, 68);
+    let v4 = two_last_rounds(v3, w, k, 70);
+    let v5 = two_last_rounds(v4, w, k, 72);
+    let v6 = two_last_rounds(v5, w, k, 74);
+    let v7 = two_last_rounds(v6, w, k, 76);
+    two_last_rounds(v7, w, k, 78)
 }

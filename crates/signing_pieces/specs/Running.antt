@@ -14,6 +14,7 @@ use Rattle.protocol.specs.InnerHeader.{isInnerHeader}
 use Rattle.protocol.specs.Signing.{withSignedFlag, withSignature}
 use Rattle.protocol.specs.Pieces.{Underway}
 use Rattle.signing_pieces.specs.declared.SignState.{SignState}
+use Rattle.signing_pieces.specs.declared.SignStep.{SignStep}
 
 -- ---- what any bytes say
 
@@ -37,9 +38,16 @@ pub record UnderWay (s : SignState) (key joined : Bytes) : Type 0 where
   pub front : take (length joined) (s .header) ≡ take 64 joined
   pub chained : 64 ≤ length joined → code.Holds (s .code) (aes key) (covered joined)
 
--- a state that is all zero stands for no message
 pub record StandsFor (s : SignState) (u : Underway) : Type 0 where
   pub flag : not (eqb (s .begun) 0) ≡ u .begun
   pub count : s .length ≡ length (u .joined)
   pub no-message : u .begun ≡ false → u .joined ≡ []
   pub under-way : u .begun ≡ true → UnderWay s (u .start) (u .joined)
+
+-- the state that a refused begin and a finish hand back: no key is left in it
+unfoldable pub noMessage : SignState
+noMessage = record { key = replicate 16 0; header = replicate 64 0; code = code.nothingTaken; length = 0; begun = 0 }
+
+-- what every call hands back
+abbrev pub stepWith : SignState → ℕ → SignStep
+stepWith s n = record { state = s; number = n; spare = 0 }

@@ -20,7 +20,7 @@ ghost use Rattle.protocol.specs.SigningPieces.{signatureOf};
 ghost use Rattle.protocol.specs.Calls.{signFinishing, verifyFinishing, onlyUnderway, onlySignature};
 ghost use Rattle.protocol.specs.Contract.{Returns};
 ghost use Rattle.protocol.specs.Suite as suite;
-ghost use Rattle.signing_pieces.specs.Running.{joinedNumber, StandsFor};
+ghost use Rattle.signing_pieces.specs.Running.{joinedNumber, StandsFor, noMessage, stepWith};
 ghost use Rattle.signing_pieces.specs.Contracts.{Begins, Takes, Signs, Verifies};
 
 // struct smb3seal_sign_state, a message under way: any bytes are a state. The first 64 joined bytes are kept as they came, since the flag
@@ -44,7 +44,7 @@ pub struct SignStep {
 
 // No message under way.
 fn ended() -> SignState
-    ensures { λ r. ⌜ StandsFor r notBegun ⌝ }
+    ensures { λ r. ⌜ r ≡ noMessage ⌝ }
 {
     let none = [0u8; 16];
     let header = [0u8; 64];
@@ -57,16 +57,22 @@ fn ended() -> SignState
     }
 }
 
+fn step(state: SignState, number: u32) -> SignStep
+    ensures { λ r. ⌜ r ≡ stepWith state number ⌝ }
+{
+    SignStep {
+        state: state,
+        number: number,
+        spare: 0,
+    }
+}
+
 // A message begins under the key: 40.
 pub fn begin(key: &[u8]) -> SignStep
     ensures { λ r. ⌜ Begins (now (key .entry)) r ⌝ }
 {
     if key.len() != 16 {
-        return SignStep {
-            state: ended(),
-            number: 40,
-            spare: 0,
-        };
+        return step(ended(), 40);
     }
     let own = bytes_16(key, 0);
     let header = [0u8; 64];
@@ -77,11 +83,7 @@ pub fn begin(key: &[u8]) -> SignStep
         length: 0,
         begun: 1,
     };
-    SignStep {
-        state: state,
-        number: 0,
-        spare: 0,
-    }
+    step(state, 0)
 }
 
 impl SignState {
@@ -142,24 +144,12 @@ impl SignState {
         ensures { λ r. ⌜ Takes self (now (piece .entry)) r ⌝ }
     {
         if !((self.begun != 0) & connection::fits(self.length, piece.len())) {
-            return SignStep {
-                state: self,
-                number: 3,
-                spare: 0,
-            };
+            return step(self, 3);
         }
         if self.length < 64 {
-            return SignStep {
-                state: self.into_header(piece),
-                number: 0,
-                spare: 0,
-            };
+            return step(self.into_header(piece), 0);
         }
-        SignStep {
-            state: self.behind_header(piece),
-            number: 0,
-            spare: 0,
-        }
+        step(self.behind_header(piece), 0)
     }
 
     // 11, 12.
@@ -219,11 +209,7 @@ impl SignState {
         ensures { λ r. ⌜ Signs self (now (signature .entry)) r (now (signature .exit)) ⌝ }
     {
         let number = self.signed(signature);
-        SignStep {
-            state: ended(),
-            number: number,
-            spare: 0,
-        }
+        step(ended(), number)
     }
 
     // The message ends, and is verified.
@@ -231,10 +217,6 @@ impl SignState {
         ensures { λ r. ⌜ Verifies self r ⌝ }
     {
         let number = self.verified();
-        SignStep {
-            state: ended(),
-            number: number,
-            spare: 0,
-        }
+        step(ended(), number)
     }
 }

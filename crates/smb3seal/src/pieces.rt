@@ -3,15 +3,15 @@ use fold_pieces::FoldState;
 use fold_pieces::FoldStep;
 ghost use mathlib.Core.Bool.{true};
 ghost use Rattle.protocol.specs.Preauth.{negotiateMessage, setupRequest, setupResponse, moreProcessing};
-ghost use Rattle.protocol.specs.Pieces.{Underway, notBegun};
-ghost use Rattle.protocol.specs.Calls.{foldBeginning, foldPiece};
+ghost use Rattle.protocol.specs.Pieces.{Underway};
+ghost use Rattle.protocol.specs.Calls.{foldPiece};
 ghost use Rattle.fold_pieces.specs.State.{StandsFor};
-ghost use Rattle.fold_pieces.specs.Contracts.{HandsOn, AnyPiece, AnyFinish, Finishes};
+ghost use Rattle.fold_pieces.specs.Contracts.{HandsOn, Begins, AnyPiece, AnyFinish, Finishes};
 
 // Begins a message on a chain value.
 #[no_mangle]
 pub extern "C" fn smb3seal_fold_begin(chain: &[u8]) -> FoldStep
-    ensures { λ r. ⌜ HandsOn (foldBeginning (now (chain .entry))) notBegun (r .number) (r .state) ⌝ }
+    ensures { λ r. ⌜ Begins (now (chain .entry)) r ⌝ }
 {
     fold_pieces::begin(chain)
 }
@@ -20,7 +20,7 @@ pub extern "C" fn smb3seal_fold_begin(chain: &[u8]) -> FoldStep
 #[no_mangle]
 pub extern "C" fn smb3seal_fold_piece(state: FoldState, piece: &[u8]) -> FoldStep
     ensures { λ r. ⌜ AnyPiece state (now (piece .entry)) r
-        × ((u : Underway) → StandsFor state u → HandsOn (foldPiece (now (piece .entry))) u (r .number) (r .state)) ⌝ }
+        × ((u : Underway) → StandsFor state u → HandsOn (foldPiece (now (piece .entry))) u r) ⌝ }
 {
     state.piece(piece)
 }

@@ -1,13 +1,14 @@
--- Right because the mark says that no message is under way.
+-- Right because the hash is the one in which nothing was taken in, and every other byte is 0.
 -- Assumes nothing.
 use mathlib.Core.Path.{refl}
-use Rattle.fold_pieces.proofs.StateLaws.{stands-ended}
+use Rattle.fold_pieces.specs.State.{noMessage}
 use borrow.Author.Needs.{needs}
 use Rattle.fold_pieces.proofs.ended.Statement.{statement}
 use Rattle.fold_pieces.proofs.ended.Tie as tie
 
 returns : tie.Need-returns
-returns c = stands-ended _ refl
+unfolding noMessage
+returns c = rw (c .new .ensures) refl
 
 pub ended-spec : {M : Type 1} → statement M
 ended-spec = tie.close (tie.spec (λ c κs. search needs) returns)

@@ -6,6 +6,7 @@ use native.Mathlib.Omega.{arith}
 use Prim.Native.Nat.{_+_}
 use mathlib.Core.List.{[], _++_}
 use mathlib.Core.Path.{_≡_, sym, _∙_}
+use Rattle.sha512.proofs.Beginning.{new-holds}
 use borrow.Author.Needs.{needs}
 use Rattle.preauth.proofs.next_value.Statement.{statement}
 use Rattle.preauth.proofs.next_value.Tie as tie
@@ -17,7 +18,7 @@ returns c =
     let joined : length (v ++ m) ≡ length v + length m = length-append v m in
     let sizes = c .before .before .before .before .before .before .pre in
     c .finish .ensures (v ++ m) (omega arith)
-    (c .before .update2 .ensures v (c .before .before .update .ensures [] (c .before .before .before .new .ensures))) ∙ sym (sha512-is (v ++ m))
+    (c .before .update2 .ensures v (c .before .before .update .ensures [] (new-holds _ (c .before .before .before .new .ensures)))) ∙ sym (sha512-is (v ++ m))
 
 pub next-value-spec : {M : Type 1} → statement M
 next-value-spec =

@@ -3,6 +3,7 @@
 use mathlib.Core.List.{[]}
 use denote.Ref.{now}
 use native.Mathlib.Omega.{arith}
+use Rattle.sha512.proofs.Beginning.{new-holds}
 use borrow.Author.Needs.{needs}
 use Rattle.sha512.proofs.hash.Statement.{statement}
 use Rattle.sha512.proofs.hash.Tie as tie
@@ -10,7 +11,7 @@ use Rattle.sha512.proofs.hash.Tie as tie
 returns : tie.Need-returns
 returns c =
     let s = c .before .before .before .before in
-    c .finish .ensures (now (s .args .msg)) (omega (arith, s .good .0 .1)) (c .before .update .ensures [] (c .before .before .new .ensures))
+    c .finish .ensures (now (s .args .msg)) (omega (arith, s .good .0 .1)) (c .before .update .ensures [] (new-holds _ (c .before .before .new .ensures)))
 
 pub hash-spec : {M : Type 1} → statement M
 hash-spec =

@@ -10,13 +10,13 @@ use Rattle.sha512_compression.proofs.hash_blocks.Statement.{statement}
 use Rattle.sha512_compression.proofs.hash_blocks.Tie as tie
 
 abbrev Inv-loop : tie.InvT-loop
-Inv-loop m k h₀ n i₀ h i = Taking sha512 h₀ m k n h i
+Inv-loop m h₀ n i₀ h i = Taking sha512 h₀ m n h i
 
 abbrev μ-loop : tie.MeasureT-loop
-μ-loop m k h₀ n i₀ h i = n - i
+μ-loop m h₀ n i₀ h i = n - i
 
 loop-holds : tie.Need-loop-holds Inv-loop μ-loop
-loop-holds c = taking-start sha512 (c .before .args .hs) (now (c .before .args .m)) (now (c .before .args .k)) (c .before .pre)
+loop-holds c = taking-start sha512 (c .before .args .hs) (now (c .before .args .m))
 
 loop-again : tie.Need-loop-again Inv-loop μ-loop
 loop-again c = taking-turn sha512 (c .before .before .before .loop .inv) (c .before .before .loop-test .taken) (c .compress .ensures)

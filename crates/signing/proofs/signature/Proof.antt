@@ -11,6 +11,7 @@ use lib.Seq.{length-take-le, take-all}
 use Rattle.octets.proofs.Paste.{part-all}
 use Rattle.aes.specs.BlockCipher.{blockCipher, expandedKey}
 use Rattle.cmac.specs.Cmac as rfc4493
+use Rattle.cmac.proofs.Beginning.{new-holds}
 use Rattle.protocol.specs.Signing.{withSignature, signatureUnder}
 use Rattle.protocol.proofs.SuiteLaws.{cmac-is}
 use Rattle.signing.proofs.SigningLaws.{taken-in}
@@ -41,7 +42,7 @@ returns c =
     let E = blockCipher (keys .expand-key .result) in
     let same-key : keys .expand-key .result ≡ expandedKey key =
     keys .expand-key .ensures ∙ ap expandedKey (keys .before .bytes-16 .ensures ∙ take-all 16 key (le-of-eq (st .pre .0))) in
-    c .finish .ensures _ (c .before .before .update2 .ensures _ (one .update .ensures [] (new .new .ensures E)))
+    c .finish .ensures _ (c .before .before .update2 .ensures _ (one .update .ensures [] (new-holds _ (new .new .ensures) E)))
     ∙ ap (rfc4493.cmac E)
     (taken-in m (header .copy .last .0) _ (length-take-le 48 m (omega (arith, st .pre .1))) (header .copy .ensures) (part-all m 64))
     ∙ ap (λ (k : List (List ℕ)). rfc4493.cmac (blockCipher k) (withSignature (replicate 16 0) m)) same-key

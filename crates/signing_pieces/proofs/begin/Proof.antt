@@ -10,20 +10,24 @@ use Rattle.signing_pieces.proofs.begin.Statement.{statement}
 use Rattle.signing_pieces.proofs.begin.Tie as tie
 
 returns : tie.Need-returns
-returns c = not-begun (now (c .before .before .before .args .key)) _ (c .ended .ensures) (c .before .if1 .taken)
+returns c =
+    let key = now (c .before .before .before .before .args .key) in
+    rw (c .step .ensures) (not-begun key _ (c .before .ended .ensures) (c .before .before .if1 .taken))
 
 returns-2 : tie.Need-returns-2
 returns-2 c =
-    let key = now (c .before .before .before .before .args .key) in
-    let size = c .before .before .if1 .left in
-    begins key _ _ _ size (c .before .bytes-16 .ensures ∙ take-all 16 key (le-of-eq size))
+    let key = now (c .before .before .before .before .before .args .key) in
+    let size = c .before .before .before .if1 .left in
+    rw (c .step2 .ensures) (begins key _ _ _ size (c .before .before .bytes-16 .ensures ∙ take-all 16 key (le-of-eq size)))
 
 pub begin-spec : {M : Type 1} → statement M
 begin-spec =
     tie.close
     (tie.spec
     (λ c κs. search needs)
+    (λ c κs. search needs)
     returns
+    (λ c κs. search needs)
     (λ c κs. search needs)
     (λ c κs. search needs)
     returns-2)

@@ -1,12 +1,14 @@
--- Right because a state that is 0 in every byte has no message.
+-- Right because nothing was taken into the code, and every other byte is 0.
 -- Assumes nothing.
-use Rattle.signing_pieces.proofs.StateLaws.{ends}
+use mathlib.Core.Path.{refl}
+use Rattle.signing_pieces.specs.Running.{noMessage}
 use borrow.Author.Needs.{needs}
 use Rattle.signing_pieces.proofs.ended.Statement.{statement}
 use Rattle.signing_pieces.proofs.ended.Tie as tie
 
 returns : tie.Need-returns
-returns c = ends _ _ _
+unfolding noMessage
+returns c = rw (c .new .ensures) refl
 
 pub ended-spec : {M : Type 1} → statement M
 ended-spec =

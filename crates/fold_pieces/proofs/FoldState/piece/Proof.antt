@@ -16,9 +16,10 @@ use Rattle.fold_pieces.proofs.FoldState.piece.Tie as tie
 
 returns : tie.Need-returns
 returns c =
-    let a = c .before .before .before .before .args in
-    let e = ap (λ (b : Bool). flag (a .self .underway) && b) (sym (c .before .fits2 .ensures)) ∙ not-true _ (c .if1 .taken) in
-    (any-refused (a .self) (now (a .piece)) _ e refl refl, λ u h. piece-refused (a .self) u h (now (a .piece)) e)
+    let past = c .before in
+    let a = past .before .before .before .before .args in
+    let e = ap (λ (b : Bool). flag (a .self .underway) && b) (sym (past .before .fits2 .ensures)) ∙ not-true _ (past .if1 .taken) in
+    rw (c .step .ensures) (any-refused (a .self) (now (a .piece)) e, λ u h. piece-refused (a .self) u h (now (a .piece)) e)
 
 add-t15 : tie.Need-add-t15
 add-t15 c =
@@ -30,13 +31,23 @@ add-t15 c =
 
 returns-2 : tie.Need-returns-2
 returns-2 c =
-    let past = c .before .before .before .before .before in
+    let past = c .before .before .before .before .before .before in
     let a = past .before .before .before .before .args in
-    let e = ap (λ (b : Bool). flag (a .self .underway) && b) (sym (past .before .fits2 .ensures)) ∙ not-false _ (past .if1 .left) in (
-      any-taken (a .self) (now (a .piece)) _ e refl,
-      λ u h. piece-taken (a .self) u h (now (a .piece)) _ e refl (c .before .update .ensures) refl (c .head-with .ensures),
+    let e = ap (λ (b : Bool). flag (a .self .underway) && b) (sym (past .before .fits2 .ensures)) ∙ not-false _ (past .if1 .left) in
+    rw (c .step2 .ensures) (
+      any-taken (a .self) (now (a .piece)) _ e,
+      λ u h. piece-taken (a .self) u h (now (a .piece)) _ e refl (c .before .before .update .ensures) refl (c .before .head-with .ensures),
     )
 
 pub piece-spec : {M : Type 1} → statement M
 piece-spec =
-    tie.close (tie.spec (λ c κs. search needs) returns (λ c κs. search needs) add-t15 (λ c κs. search needs) returns-2)
+    tie.close
+    (tie.spec
+    (λ c κs. search needs)
+    (λ c κs. search needs)
+    returns
+    (λ c κs. search needs)
+    add-t15
+    (λ c κs. search needs)
+    (λ c κs. search needs)
+    returns-2)

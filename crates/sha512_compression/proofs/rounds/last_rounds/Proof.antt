@@ -1,42 +1,30 @@
--- Right because each turn is the next round.
+-- Right because each two rounds take up where the two before left off.
 -- Assumes nothing.
-use Prim.Native.Nat.{_-_}
-use native.Mathlib.Omega.{arith}
-use denote.Ref.{now}
-use Rattle.sha2.specs.Sha512.{sha512}
-use Rattle.sha2.proofs.Loops.{Last, last-start, last-turn, last-end}
-use Rattle.sha512_compression.specs.Code.{of}
+use borrow.Author.Needs.{needs}
 use Rattle.sha512_compression.proofs.rounds.last_rounds.Statement.{statement}
 use Rattle.sha512_compression.proofs.rounds.last_rounds.Tie as tie
 
-abbrev Inv-loop : tie.InvT-loop
-Inv-loop w k v₀ j₀ v j = Last sha512 w k (of v₀) (of v) j
-
-abbrev μ-loop : tie.MeasureT-loop
-μ-loop w k v₀ j₀ v j = 80 - j
-
-loop-holds : tie.Need-loop-holds Inv-loop μ-loop
-loop-holds c = last-start sha512 (now (c .args .w)) (now (c .args .k)) (of (c .args .s)) (c .pre .0) (c .pre .1)
-
-loop-again : tie.Need-loop-again Inv-loop μ-loop
-loop-again c = last-turn sha512 (c .before .before .before .before .loop .inv) (c .before .before .before .loop-test .taken) (c .round .ensures)
-
-returns : tie.Need-returns Inv-loop μ-loop
-returns c = last-end sha512 (c .before .loop .inv) (c .loop-test .left)
+returns : tie.Need-returns
+returns c = λ x e.
+    let e₁ = c .before .before .before .before .before .before .before .two-last-rounds .ensures x e in
+    let e₂ = c .before .before .before .before .before .before .two-last-rounds2 .ensures x e₁ in
+    let e₃ = c .before .before .before .before .before .two-last-rounds3 .ensures x e₂ in
+    let e₄ = c .before .before .before .before .two-last-rounds4 .ensures x e₃ in
+    let e₅ = c .before .before .before .two-last-rounds5 .ensures x e₄ in
+    let e₆ = c .before .before .two-last-rounds6 .ensures x e₅ in
+    let e₇ = c .before .two-last-rounds7 .ensures x e₆ in
+    c .two-last-rounds8 .ensures x e₇
 
 pub last-rounds-spec : {M : Type 1} → statement M
 last-rounds-spec =
     tie.close
     (tie.spec
-    Inv-loop
-    μ-loop
-    loop-holds
-    (λ c. omega arith)
-    (λ c. omega arith)
-    (λ c. omega arith)
-    (λ c. omega arith)
-    (λ c κs. omega arith)
-    (λ c. omega arith)
-    (λ c. omega arith)
-    loop-again
+    (λ c κs. search needs)
+    (λ c κs. search needs)
+    (λ c κs. search needs)
+    (λ c κs. search needs)
+    (λ c κs. search needs)
+    (λ c κs. search needs)
+    (λ c κs. search needs)
+    (λ c κs. search needs)
     returns)

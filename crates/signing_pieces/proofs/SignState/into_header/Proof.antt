@@ -9,6 +9,7 @@ use lib.ListN.{length, take, length-map, take-append-drop}
 use lib.Seq.{length-take-le}
 use Rattle.octets.proofs.Paste.{part-all}
 use Rattle.aes.specs.BlockCipher.{blockCipher}
+use Rattle.cmac.proofs.Beginning.{new-holds}
 use Rattle.signing_pieces.proofs.PieceLaws.{still-short, now-whole}
 use borrow.Author.Needs.{needs}
 use Rattle.signing_pieces.proofs.SignState.into_header.Statement.{statement}
@@ -56,7 +57,7 @@ returns-2 c =
     let l = length-take-le cut piece (omega (arith, fits)) in
     let one = c .before .before .before .before in
     let signed = one .before .before .before .before in
-    let taken = c .before .update2 .ensures _ (one .update .ensures [] (one .before .before .before .new .ensures E)) in
+    let taken = c .before .update2 .ensures _ (one .update .ensures [] (new-holds _ (one .before .before .before .new .ensures) E)) in
     λ u h b.
     now-whole u b piece (a .self) h (room st) (st .pre .0) (take cut piece) _ _ (omega (arith, l, st .pre .0))
     (ap (λ x. take cut piece ++ x) (part-all piece cut) ∙ take-append-drop cut piece)

@@ -8,8 +8,8 @@ use Rattle.signing_pieces.proofs.SignState.piece.Tie as tie
 
 returns : tie.Need-returns
 returns c =
-    let a = c .before .before .before .before .args in
-    refuses (a .self) (now (a .piece)) _ (c .before .fits2 .ensures) (c .if1 .taken)
+    let a = c .before .before .before .before .before .args in
+    rw (c .step .ensures) (refuses (a .self) (now (a .piece)) _ (c .before .before .fits2 .ensures) (c .before .if1 .taken))
 
 into-header-requires : tie.Need-into-header-requires
 into-header-requires c κs =
@@ -18,8 +18,9 @@ into-header-requires c κs =
 
 returns-2 : tie.Need-returns-2
 returns-2 c =
-    let a = c .before .before .before .before .before .before .before .args in
-    taken (a .self) (now (a .piece)) _ (c .before .before .before .before .fits2 .ensures) (c .before .before .before .if1 .left) _ (c .into-header .ensures)
+    let past = c .before .before .before .before in
+    let a = past .before .before .before .before .args in
+    rw (c .step2 .ensures) (taken (a .self) (now (a .piece)) _ (past .before .fits2 .ensures) (past .if1 .left) _ (c .before .into-header .ensures))
 
 behind-header-requires : tie.Need-behind-header-requires
 behind-header-requires c κs =
@@ -28,16 +29,20 @@ behind-header-requires c κs =
 
 returns-3 : tie.Need-returns-3
 returns-3 c =
-    let a = c .before .before .before .before .before .before .before .args in
-    taken (a .self) (now (a .piece)) _ (c .before .before .before .before .fits2 .ensures) (c .before .before .before .if1 .left) _ (c .behind-header .ensures)
+    let past = c .before .before .before .before in
+    let a = past .before .before .before .before .args in
+    rw (c .step3 .ensures) (taken (a .self) (now (a .piece)) _ (past .before .fits2 .ensures) (past .if1 .left) _ (c .before .behind-header .ensures))
 
 pub piece-spec : {M : Type 1} → statement M
 piece-spec =
     tie.close
     (tie.spec
     (λ c κs. search needs)
+    (λ c κs. search needs)
     returns
     into-header-requires
+    (λ c κs. search needs)
     returns-2
     behind-header-requires
+    (λ c κs. search needs)
     returns-3)

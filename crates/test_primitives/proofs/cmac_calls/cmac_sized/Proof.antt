@@ -6,6 +6,7 @@ use Prim.Native.Nat.{ℕ}
 use denote.Ref.{now}
 use Rattle.aes.specs.BlockCipher.{blockCipher, expandedKey}
 use Rattle.cmac.specs.Cmac as rfc4493
+use Rattle.cmac.proofs.Beginning.{new-holds}
 use Rattle.test_primitives.proofs.Laws.{whole}
 use borrow.Author.Needs.{needs}
 use Rattle.test_primitives.proofs.cmac_calls.cmac_sized.Statement.{statement}
@@ -17,7 +18,7 @@ returns c =
     let x = one .before .before .before .before in
     let s = x .before .before .before .before .before in
     let k = x .expand-key .ensures ∙ ap expandedKey (whole 16 (now (s .args .key)) _ (s .pre) (x .before .bytes-16 .ensures)) in
-    c .finish .ensures _ (c .before .before .update2 .ensures _ (one .update .ensures [] (one .before .before .new .ensures _)))
+    c .finish .ensures _ (c .before .before .update2 .ensures _ (one .update .ensures [] (new-holds _ (one .before .before .new .ensures) _)))
     ∙ ap (λ (keys : List (List ℕ)). rfc4493.cmac (blockCipher keys) (now (s .args .front) ++ now (s .args .back))) k
 
 pub cmac-sized-spec : {M : Type 1} → statement M
