@@ -46,13 +46,18 @@ $(MUTANTS): $(BUILD)/mutants/%: $(BUILD)/plain/%.o $(SHARED:%=$(BUILD)/plain/%.o
 outside: setup-test
 	@$(MAKE) --silent --no-print-directory NO_SETUP=1 outside-tests
 
-outside-tests: consistency examples packaging rust symbols programs replay rescue valgrind mutants tshark
+# What rt has to build comes first, since two runs of rt in one tree write the same files. Then two lanes, which share no file that they
+# write: the C tests, and what is not one.
+outside-tests: consistency all $(PRIMITIVES) $(BUILD)/smb3_vectors.h
+	@scripts/two-lanes "$(AGAIN) library-lane" "$(AGAIN) program-lane"
+
+library-lane: symbols programs valgrind mutants tshark
+program-lane: examples packaging rust replay rescue
 
 # Pages, lists and vectors agree with each other and with the tree.
 consistency:
 	@rt fmt --check
 	@scripts/vectors --check
-	@scripts/test-with "the file that the exchange must write" python3-cryptography -- scripts/exchange --check
 	@scripts/test-with "the trace of the gate, and its lines" python3-cryptography -- scripts/lab-trace --check
 	@scripts/numbers --check
 	@scripts/docs-check
@@ -138,5 +143,5 @@ coverage: setup-test
 	scripts/archive-coverage $(ARCHIVE) $(BUILD)/coverage $(BUILD)/plain/vectors_test $(BUILD)/plain/lengths_test \
 	    "$(BUILD)/plain/random_test 1 $(VALGRIND_CASES)" "$(BUILD)/plain/table_test 1 $(VALGRIND_LISTS)"
 
-.PHONY: outside outside-tests consistency symbols programs replay rescue valgrind mutants tshark run-programs run-valgrind run-mutants run-tshark
+.PHONY: outside outside-tests library-lane program-lane consistency symbols programs replay rescue valgrind mutants tshark run-programs run-valgrind run-mutants run-tshark
 .PHONY: fuzz samba coverage

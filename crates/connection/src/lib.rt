@@ -1,8 +1,16 @@
-// What a connection agreed on (RULES 1 and 6). Every function above takes it by value.
+// What a connection agreed on (RULES 1 and 6). Every function above takes it by value, and finds the limits and the numbers of dialects and
+// ciphers here too.
+pub use dialects::cipher_key_bytes;
+pub use dialects::is_gcm;
+pub use dialects::is_wide;
+pub use dialects::known_dialect;
+pub use dialects::place_bytes;
+pub use limits::fits;
+pub use limits::last_counter;
+pub use limits::longest_material;
+pub use limits::longest_message;
 ghost use mathlib.Core.Path.{_≡_};
-ghost use Prim.Native.Nat.{_+_};
-ghost use lib.Dec.{leb};
-ghost use Rattle.protocol.specs.Connection.{knownDialect, encrypts, cipherUsed, isGcm, usesGcm, isWide, usesWide, cipherKeyBytes, placeBytes, longestMessage, longestMaterial, lastCounter};
+ghost use Rattle.protocol.specs.Connection.{encrypts, cipherUsed, usesGcm, usesWide};
 ghost use Rattle.connection.specs.Reading.{bitOf, connectionOf, underKey};
 
 pub const CLIENT: u8 = 0;
@@ -18,44 +26,6 @@ pub struct Connection {
     pub encryption: u8,
     pub constrained: u8,
     pub spare: u8,
-}
-
-// Numbers 3 and 23.
-pub fn longest_message() -> usize
-    ensures { λ r. ⌜ r ≡ longestMessage ⌝ }
-{
-    8454144
-}
-
-// A message of this length does not pass the limit with so many bytes more: 3 or 23 is not given to a piece.
-pub fn fits(length: u64, more: usize) -> bool
-    ensures { λ r. ⌜ r ≡ leb (length + more) longestMessage ⌝ }
-{
-    let longest = longest_message() as u64;
-    if longest < length {
-        return false;
-    }
-    (more as u64) <= longest - length
-}
-
-// Number 19, of key material that cipher keys of 32 bytes come from.
-pub fn longest_material() -> usize
-    ensures { λ r. ⌜ r ≡ longestMaterial ⌝ }
-{
-    65536
-}
-
-// Number 17: 2^64 - 1.
-pub fn last_counter() -> u64
-    ensures { λ r. ⌜ r ≡ lastCounter ⌝ }
-{
-    18446744073709551615
-}
-
-pub fn known_dialect(dialect: u16) -> bool
-    ensures { λ r. ⌜ r ≡ knownDialect dialect ⌝ }
-{
-    (dialect == 0x0300) | (dialect == 0x0302) | (dialect == 0x0311)
 }
 
 // Number 1 is not given.
@@ -74,13 +44,6 @@ pub fn cipher_used(c: Connection) -> u16
     if c.dialect == 0x0311 { c.cipher } else { 1 }
 }
 
-// AES-128-GCM and AES-256-GCM.
-pub fn is_gcm(cipher: u16) -> bool
-    ensures { λ r. ⌜ r ≡ isGcm cipher ⌝ }
-{
-    (cipher == 2) | (cipher == 4)
-}
-
 // Number 29 may be given.
 pub fn uses_gcm(c: Connection) -> bool
     ensures { λ r. ⌜ r ≡ usesGcm (connectionOf c) ⌝ }
@@ -88,31 +51,10 @@ pub fn uses_gcm(c: Connection) -> bool
     is_gcm(cipher_used(c))
 }
 
-// AES-256-CCM and AES-256-GCM: on 3.1.1 alone.
-pub fn is_wide(dialect: u16, cipher: u16) -> bool
-    ensures { λ r. ⌜ r ≡ isWide dialect cipher ⌝ }
-{
-    (dialect == 0x0311) & ((cipher == 3) | (cipher == 4))
-}
-
 pub fn uses_wide(c: Connection) -> bool
     ensures { λ r. ⌜ r ≡ usesWide (connectionOf c) ⌝ }
 {
     is_wide(c.dialect, c.cipher)
-}
-
-// Numbers 35 and 40.
-pub fn cipher_key_bytes(wide: bool) -> usize
-    ensures { λ r. ⌜ r ≡ cipherKeyBytes wide ⌝ }
-{
-    if wide { 32 } else { 16 }
-}
-
-// Number 40: two keys of 16 bytes, then two cipher keys.
-pub fn place_bytes(wide: bool) -> usize
-    ensures { λ r. ⌜ r ≡ placeBytes wide ⌝ }
-{
-    if wide { 96 } else { 64 }
 }
 
 // A flag as the library stores it.

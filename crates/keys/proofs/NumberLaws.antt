@@ -16,9 +16,9 @@ use Rattle.protocol.specs.Contract.{Returns}
 use Rattle.protocol.specs.Suite.{kdf}
 use Rattle.protocol.proofs.CallLaws.{lines-return, lines-return-done}
 use Rattle.protocol.proofs.Judging.{passes, line}
-use Rattle.keys.specs.Reading.{stored, keysIn}
-use Rattle.keys.proofs.PlaceLaws.{stored-back}
-use Rattle.keys.proofs.LabelLaws.{derived-lengths}
+use Rattle.derived_keys.specs.Reading.{stored, keysIn}
+use Rattle.derived_keys.proofs.LabelLaws.{derived-lengths}
+use Rattle.derived_keys.proofs.Stored.{stored-back}
 
 module _ (dialect cipher : ℕ) (chain material place : Bytes) (n : ℕ) (says : n ≡ firstOf (derivationTests dialect cipher chain material place)) where
   pub place-fits : (wide : Bool) → wide ≡ isWide dialect cipher → n ≡ 0 → length place ≡ placeBytes wide

@@ -1,20 +1,16 @@
--- A place that is written from its start, a key at a time; and the keys that are stored there, read back.
+-- A place that is written from its start, a key at a time.
 -- Assumes nothing.
 use mathlib.Core.Path.{_≡_, refl, sym, ap, ap₂, _∙_}
 use mathlib.Core.Bool.{Bool, true, false}
 use mathlib.Core.List.{[], _++_, append-assoc}
 use Prim.Native.Nat.{ℕ, _+_, _≤_, min}
 use native.Mathlib.Omega.{arith}
-use lib.Dec.{lit≤}
-use lib.ListN.{length, take, drop, replicate}
-use lib.Seq.{paste, length-paste, take-paste, take-length, take-at, take-all}
-use Rattle.octets.specs.Blocks.{zeroPadded}
-use Rattle.octets.proofs.BlockLaws.{zeros-replaced}
+use lib.ListN.{length, take}
+use lib.Seq.{paste, length-paste, take-paste, take-length, take-all}
 use Rattle.protocol.specs.Bytes.{Bytes}
-use Rattle.protocol.specs.Connection.{cipherKeyBytes}
 use Rattle.protocol.specs.Keys as rules
-use Rattle.keys.specs.declared.Keys.{Keys}
-use Rattle.keys.specs.Reading.{stored, keysIn}
+use Rattle.derived_keys.specs.declared.Keys.{Keys}
+use Rattle.derived_keys.specs.Reading.{keysIn}
 
 -- the first n bytes of a place of so many bytes in all are s
 pub record Written (all n : ℕ) (s place : Bytes) : Type 0 where
@@ -42,27 +38,6 @@ written-whole all n a b c d place e w =
     let whole : take n place ≡ place = rw (w .size ∙ sym e) at (take-length place) in
     let joined : (([] ++ a) ++ b) ++ c ++ d ≡ a ++ (b ++ (c ++ d)) = simp append-assoc in
     sym whole ∙ w .front ∙ joined
-
--- a cipher key, without the zeros behind it
-pub unpadded : (n : ℕ) (key : Bytes) → length key ≡ n → n ≤ 32 → take n (zeroPadded 32 key) ≡ key
-unpadded n key l h =
-    ap (take n) (sym (zeros-replaced 32 key (length key) (omega arith)) ∙ ap (λ (x : Bytes). x ++ drop (length key) (replicate 32 0)) (take-length key))
-    ∙ take-at key (drop (length key) (replicate 32 0)) n l
-
-pub at-most-32 : (wide : Bool) → cipherKeyBytes wide ≤ 32
-at-most-32 true = lit≤ tt
-at-most-32 false = lit≤ tt
-
-pub stored-back : (wide : Bool) (k : rules.Keys) → length (k .clientToServer) ≡ cipherKeyBytes wide → length (k .serverToClient) ≡ cipherKeyBytes wide
-    → keysIn wide (stored k) ≡ k
-stored-back wide k c s =
-    λ i.
-    record {
-      signing = k .signing;
-      application = k .application;
-      clientToServer = unpadded (cipherKeyBytes wide) (k .clientToServer) c (at-most-32 wide) i;
-      serverToClient = unpadded (cipherKeyBytes wide) (k .serverToClient) s (at-most-32 wide) i;
-    }
 
 -- what is written of the struct, by the size of its cipher keys
 module _ (wide : Bool) (k : Keys) (place : Bytes) where

@@ -1,12 +1,12 @@
 // The caller's place for the keys.
-use crate::Keys;
+use derived_keys::Keys;
 use runs::copy;
 ghost use mathlib.Core.Path.{_≡_};
 ghost use mathlib.Core.List.{_++_};
 ghost use Prim.Native.Nat.{_+_};
 ghost use lib.ListN.{length};
 ghost use Rattle.protocol.specs.Connection.{placeBytes};
-ghost use Rattle.keys.specs.Reading.{keysIn};
+ghost use Rattle.derived_keys.specs.Reading.{keysIn};
 ghost use Rattle.protocol.specs.Keys.{keysInOrder};
 
 // Two keys of 16 bytes, then two cipher keys.

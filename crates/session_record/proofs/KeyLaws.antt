@@ -9,7 +9,7 @@ use lib.Seq.{length-take-le}
 use Rattle.protocol.specs.Bytes.{Bytes}
 use Rattle.protocol.specs.Connection.{client, server, cipherKeyBytes}
 use Rattle.protocol.specs.SessionTable.{sealingKey, openingKey}
-use Rattle.keys.proofs.PlaceLaws.{at-most-32}
+use Rattle.derived_keys.proofs.Stored.{at-most-32}
 use Rattle.session_record.specs.declared.Session.{Session}
 use Rattle.session_record.specs.Reading.{keyBytes, sessionOf}
 

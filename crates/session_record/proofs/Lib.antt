@@ -1,5 +1,2 @@
-pub mod Sealing
-pub mod Opening
 pub mod KeyLaws
-pub mod AddingLaws
 pub mod StoredLaws

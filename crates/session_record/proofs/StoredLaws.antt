@@ -11,8 +11,8 @@ use Rattle.protocol.specs.Keys.{Keys, derivedKeys}
 use Rattle.protocol.specs.SessionTable as table
 use Rattle.protocol.specs.Suite.{kdf}
 use Rattle.connection.specs.Reading.{flag, bitOf}
-use Rattle.keys.proofs.LabelLaws.{derived-lengths}
-use Rattle.keys.proofs.PlaceLaws.{unpadded, at-most-32}
+use Rattle.derived_keys.proofs.LabelLaws.{derived-lengths}
+use Rattle.derived_keys.proofs.Stored.{unpadded, at-most-32}
 use Rattle.session_record.specs.Reading.{sessionOf, stored, free}
 
 bit-read : (b : Bool) → flag (bitOf b) ≡ b

@@ -12,7 +12,7 @@ use Rattle.protocol.specs.Calls.{lines, verdict, addTests}
 use Rattle.protocol.specs.Suite.{kdf}
 use Rattle.connection.specs.declared.Connection.{Connection}
 use Rattle.connection.specs.Reading.{flag, bitOf}
-use Rattle.keys.specs.declared.Keys.{Keys}
+use Rattle.derived_keys.specs.declared.Keys.{Keys}
 use Rattle.session_record.specs.declared.Adding.{Adding}
 use Rattle.session_record.specs.declared.Session.{Session}
 use Rattle.session_record.specs.Reading.{stored}

@@ -1,9 +1,8 @@
 // One session record by value, and what each call with the session table does with it (RULES 7 and the numbers 1 to 22).
-mod lines;
-mod new;
+pub mod lines;
+pub mod new;
 
 use answer::Answer;
-use answer::refuse;
 use connection::Connection;
 ghost use mathlib.Core.Path.{_≡_};
 ghost use mathlib.Core.Bool.{cond};
@@ -12,8 +11,8 @@ ghost use Rattle.protocol.specs.SessionTable.{sealingKey, openingKey};
 ghost use Rattle.answer.specs.Reading.{answerOf};
 ghost use Rattle.connection.specs.Reading.{flag, roleOf, connectionOf};
 ghost use Rattle.session_record.specs.Reading.{free, isWanted, keyBytes, sessionOf, stepped};
-ghost use Rattle.session_record.specs.Contracts.{SealsWith, counterMoves, OpensWith, namedId, removedOf};
-ghost use Rattle.session_record.specs.Adds.{addingFor, addingOf, AddsWith};
+ghost use Rattle.session_record.specs.Contracts.{counterMoves, namedId, removedOf};
+ghost use Rattle.session_record.specs.Adds.{addingFor};
 
 // struct smb3seal_session: any bytes are a record. A flag is a byte, 0 for no and anything else for yes. Where `wide` is 0 a cipher key is
 // the first 16 of its bytes.
@@ -121,21 +120,21 @@ fn key_from(s: Session, client: bool) -> [u8; 32]
 }
 
 // How many bytes a cipher key of the record has.
-fn key_bytes(s: Session) -> usize
+pub fn key_bytes(s: Session) -> usize
     ensures { λ r. ⌜ r ≡ keyBytes s ⌝ }
 {
     connection::cipher_key_bytes(s.wide != 0)
 }
 
 // A client seals with the first cipher key, a server with the second.
-fn sealing_key(s: Session, role: u8) -> [u8; 32]
+pub fn sealing_key(s: Session, role: u8) -> [u8; 32]
     ensures { λ r. ⌜ take (keyBytes s) r ≡ sealingKey (roleOf role) (sessionOf s .keys) ⌝ }
 {
     key_from(s, role == connection::CLIENT)
 }
 
 // And opens with the other.
-fn opening_key(s: Session, role: u8) -> [u8; 32]
+pub fn opening_key(s: Session, role: u8) -> [u8; 32]
     ensures { λ r. ⌜ take (keyBytes s) r ≡ openingKey (roleOf role) (sessionOf s .keys) ⌝ }
 {
     key_from(s, role != connection::CLIENT)
@@ -149,23 +148,6 @@ pub fn session_id(message: &[u8]) -> u64
     h.session_id
 }
 
-// Seals the message in place: 1, 2, 3, 6, 7, 8, 35, 11 to 16, 17. Refused, the message is as it was.
-pub fn seal_record(s: Session, c: Connection, id: u64, message: &mut [u8]) -> Answer
-    ensures { λ r. ⌜ SealsWith (sessionOf s) (connectionOf c) id (now (message .entry)) (now (message .exit)) (answerOf r) ⌝ }
-{
-    let role = c.role;
-    let line6 = lines::record_number(s, c);
-    let first = refusals::message_number(c, message, line6);
-    if first != 0 {
-        return Answer::Refused(first);
-    }
-    let bytes = key_bytes(s);
-    let key = sealing_key(s, role);
-    let sealed = transform::seal_under(c, &key[..bytes], s.counter, id, message);
-    let out = sealed.answer;
-    out
-}
-
 // How far a sealing that answered so moves the counter.
 pub fn counter_moves(a: Answer) -> u64
     ensures { λ r. ⌜ r ≡ counterMoves (answerOf a) ⌝ }
@@ -173,51 +155,6 @@ pub fn counter_moves(a: Answer) -> u64
     match a {
         Answer::Done(_) => 1,
         Answer::Refused(_) => 0,
-    }
-}
-
-// Opens the message in place: 1 to 16, 29 after 5 and 35 after 8. Refused, the message is as it was.
-pub fn open_record(s: Session, c: Connection, message: &mut [u8]) -> Answer
-    ensures { λ r. ⌜ OpensWith (sessionOf s) (connectionOf c) (now (message .entry)) (now (message .exit)) (answerOf r) ⌝ }
-{
-    let role = c.role;
-    let h = transform_header::read_header(message);
-    let line6 = lines::record_number(s, c);
-    let line4 = refusals::header_number(c, h, line6);
-    let first = refusals::message_number(c, message, line4);
-    if first != 0 {
-        return Answer::Refused(first);
-    }
-    let bytes = key_bytes(s);
-    let key = opening_key(s, role);
-    transform::open_under(c, &key[..bytes], h.session_id, message)
-}
-
-// Adds: 40, 18 to 22. `there` is the record of the id, `old` the one at the first free place, which `room` says there is.
-pub fn add_record(
-    a: Adding,
-    there: Session,
-    old: Session,
-    room: bool,
-    material: &[u8],
-    chain: &[u8],
-) -> Changed
-    ensures { λ r. ⌜ AddsWith (addingOf a (now (chain .entry)) (now (material .entry))) (flag (there .used)) room old (r .number) (r .session) ⌝ }
-{
-    let taken = there.used != 0;
-    let line20 = lines::place_number(a.id, taken, room);
-    let line18 = keys::material_number(a.dialect, a.cipher, material, line20);
-    let n = refuse(40, !(chain.len() == 64), line18);
-    if n != 0 {
-        return Changed {
-            number: n,
-            session: old,
-        };
-    }
-    let s = new::fresh(a, keys::derived(a.dialect, a.cipher, chain, material));
-    Changed {
-        number: n,
-        session: s,
     }
 }
 

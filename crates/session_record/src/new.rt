@@ -1,7 +1,7 @@
 // Adding: the record out of the derived keys.
 use crate::Adding;
 use crate::Session;
-use keys::Keys;
+use derived_keys::Keys;
 ghost use mathlib.Core.Path.{_≡_};
 ghost use mathlib.Core.Bool.{cond};
 ghost use Rattle.protocol.specs.SessionTable.{zeroKey};

@@ -39,7 +39,7 @@ pub extern "C" fn smb3seal_table_add(
     let f = session_table::find(table, false, 0);
     let old = session_table::at(table, f);
     let room = f < table.len();
-    let r = session_record::add_record(a, there, old, room, material, chain);
+    let r = session_calls::add_record(a, there, old, room, material, chain);
     session_table::put_at(table, f, r.session);
     r.number
 }
@@ -71,7 +71,7 @@ pub extern "C" fn smb3seal_table_seal(
 {
     let i = session_table::find(table, true, id);
     let s = session_table::at(table, i);
-    let sealed = session_record::seal_record(s, connection, id, message);
+    let sealed = session_calls::seal_record(s, connection, id, message);
     let moves = session_record::counter_moves(sealed);
     session_table::step(table, i, moves);
     answer::report(sealed, headers)
@@ -90,6 +90,6 @@ pub extern "C" fn smb3seal_table_open(
     let id = session_record::session_id(message);
     let i = session_table::find(table, true, id);
     let s = session_table::at(table, i);
-    let opened = session_record::open_record(s, connection, message);
+    let opened = session_calls::open_record(s, connection, message);
     answer::report(opened, headers)
 }

@@ -1,17 +1,16 @@
-// The calls with a session table that the caller holds by value: what the exports of `smb3seal` do with a lent run of records, for a
-// program that keeps its table in a local. Each finds the place, takes the record there by value, and puts back what `session_record` makes of it.
+// A session table that its program holds by value, and the two calls that the lab makes with it: what the exports of `smb3seal` do with a
+// lent run of records. Each finds the place, takes the record there, and puts back what `session_calls` makes of it.
 use answer::Answer;
 use connection::Connection;
 use session_record::Adding;
 use session_record::Session;
 ghost use mathlib.Core.Path.{_≡_};
 ghost use lib.ListN.{length, replicate};
-ghost use Rattle.protocol.specs.SessionTable.{recordOf};
-ghost use Rattle.protocol.specs.Calls.{adding, removing, sealing, opening, onlyTable, messageAndTable};
+ghost use Rattle.protocol.specs.Calls.{adding, opening, onlyTable, messageAndTable};
 ghost use Rattle.protocol.specs.Contract.{Makes, Returns};
 ghost use Rattle.answer.specs.Reading.{answerOf};
 ghost use Rattle.connection.specs.Reading.{connectionOf};
-ghost use Rattle.session_record.specs.Reading.{free, isWanted, sessionOf};
+ghost use Rattle.session_record.specs.Reading.{free, isWanted};
 ghost use Rattle.session_record.specs.Adds.{addingOf};
 ghost use Rattle.session_table.specs.Reading.{tableOf};
 ghost use Rattle.session_table.specs.Place.{first, recordAt, putAt};
@@ -24,15 +23,9 @@ pub struct Table {
     pub records: [Session; RECORDS],
 }
 
-// What adding and removing give: the number of RULES 2, and the table after it.
+// What adding gives: the number of RULES 2, and the table after it.
 pub struct ChangedIn {
     pub number: u32,
-    pub table: Table,
-}
-
-// What sealing gives: the answer, and the table after it.
-pub struct SealedIn {
-    pub answer: Answer,
     pub table: Table,
 }
 
@@ -82,14 +75,6 @@ fn put_at(from: Table, i: usize, s: Session) -> Table
     t
 }
 
-// The first used record with the id, or a free one where there is none.
-pub fn lookup_in(from: Table, id: u64) -> Session
-    ensures { λ r. ⌜ sessionOf r ≡ recordOf id (tableOf (from .records)) ⌝ }
-{
-    let i = find(from, true, id);
-    at(from, i)
-}
-
 // Adds a session of a new id in the first free record: 40, 18 to 22, or 0. Refused, the table is as it was.
 pub fn add_in(from: Table, a: Adding, material: &[u8], chain: &[u8]) -> ChangedIn
     ensures { λ r. ⌜ Returns (adding (addingOf a (now (chain .entry)) (now (material .entry)))) (onlyTable (tableOf (from .records))) (r .number) (onlyTable (tableOf (r .table .records)))
@@ -100,48 +85,20 @@ pub fn add_in(from: Table, a: Adding, material: &[u8], chain: &[u8]) -> ChangedI
     let f = find(from, false, 0);
     let old = at(from, f);
     let room = f < RECORDS;
-    let added = session_record::add_record(a, there, old, room, material, chain);
+    let added = session_calls::add_record(a, there, old, room, material, chain);
     ChangedIn {
         number: added.number,
         table: put_at(from, f, added.session),
     }
 }
 
-// Takes the session of the id out, its keys with it: 6, or 0.
-pub fn remove_in(from: Table, id: u64) -> ChangedIn
-    ensures { λ r. ⌜ Returns (removing id) (onlyTable (tableOf (from .records))) (r .number) (onlyTable (tableOf (r .table .records)))
-        × Exactly (removing id) (onlyTable (tableOf (from .records))) (from .records) (r .table .records) ⌝ }
-{
-    let i = find(from, true, id);
-    let s = at(from, i);
-    let removed = session_record::remove_record(s);
-    ChangedIn {
-        number: removed.number,
-        table: put_at(from, i, removed.session),
-    }
-}
-
-// Seals the message in place for the session of the id: 1, 2, 3, 6, 7, 8, 11 to 16, 17. Refused, message and table are as they were.
-pub fn seal_in(from: Table, c: Connection, id: u64, message: &mut [u8]) -> SealedIn
-    ensures { λ r. ⌜ Makes (sealing (connectionOf c) id) (messageAndTable (now (message .entry)) (tableOf (from .records))) (answerOf (r .answer)) (messageAndTable (now (message .exit)) (tableOf (r .table .records)))
-        × Exactly (sealing (connectionOf c) id) (messageAndTable (now (message .entry)) (tableOf (from .records))) (from .records) (r .table .records) ⌝ }
-{
-    let i = find(from, true, id);
-    let s = at(from, i);
-    let out = session_record::seal_record(s, c, id, message);
-    let moves = session_record::counter_moves(out);
-    SealedIn {
-        answer: out,
-        table: put_at(from, i, session_record::step_record(s, moves)),
-    }
-}
-
-// Opens the message in place with the session that its header names: 1 to 16. Refused, the message is as it was lent.
+// Opens the message in place with the session that its header names: 1 to 16, 29 after 5 and 35 after 8. Refused, the message is as it was
+// lent.
 pub fn open_in(from: Table, c: Connection, message: &mut [u8]) -> Answer
     ensures { λ r. ⌜ Makes (opening (connectionOf c)) (messageAndTable (now (message .entry)) (tableOf (from .records))) (answerOf r) (messageAndTable (now (message .exit)) (tableOf (from .records))) ⌝ }
 {
     let named = session_record::session_id(message);
     let i = find(from, true, named);
     let s = at(from, i);
-    session_record::open_record(s, c, message)
+    session_calls::open_record(s, c, message)
 }

@@ -1,7 +1,6 @@
 // Sealing and opening in place under one given key (RULES 4; MS-SMB2 3.1.4.3, 3.2.5.1.1 and 3.3.5.2.1).
 mod body;
 mod cipher;
-mod envelope;
 
 use answer::Answer;
 use answer::refuse;

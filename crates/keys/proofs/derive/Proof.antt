@@ -2,7 +2,7 @@
 -- Assumes nothing.
 use mathlib.Core.Path.{ap, _∙_}
 use Rattle.protocol.specs.Keys.{keysInOrder}
-use Rattle.keys.specs.Reading.{keysIn}
+use Rattle.derived_keys.specs.Reading.{keysIn}
 use Rattle.keys.proofs.NumberLaws.{place-fits, left-alone, filled}
 use borrow.Author.Needs.{needs}
 use Rattle.keys.proofs.derive.Statement.{statement}

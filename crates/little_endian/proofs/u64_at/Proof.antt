@@ -1,5 +1,6 @@
 -- Right because eight bytes, the lowest first, are two numbers of four (little8-is).
 -- Assumes nothing.
+use mathlib.Core.Path.{sym}
 use native.Mathlib.Omega.{arith}
 use Rattle.octets.proofs.NumberLaws.{little8-is}
 use borrow.Author.Needs.{needs}
@@ -7,7 +8,9 @@ use Rattle.little_endian.proofs.u64_at.Statement.{statement}
 use Rattle.little_endian.proofs.u64_at.Tie as tie
 
 returns : tie.Need-returns
-returns c = cc (little8-is (c .before .before .before .args .b .now) (c .before .before .before .args .at) (c .before .before .before .pre))
+returns c =
+    let start = c .before .before .before in
+    rw (c .u32-at2 .ensures, c .before .u32-at .ensures) (sym (little8-is (start .args .b .now) (start .args .at) (start .pre)))
 
 pub u64-at-spec : {M : Type 1} → statement M
 u64-at-spec =

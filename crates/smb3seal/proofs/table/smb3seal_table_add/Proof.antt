@@ -39,10 +39,10 @@ use Rattle.session_record.proofs.adding_for as adding-for
 use Rattle.session_record.proofs.adding_for.Symbol as adding-for-def
 use Rattle.session_record.proofs.adding_for.Symbol.{name as #session-record·adding-for}
 use Rattle.session_record.proofs.adding_for.Met as adding-for-thm
-use Rattle.session_record.proofs.add_record as add-record
-use Rattle.session_record.proofs.add_record.Symbol as add-record-def
-use Rattle.session_record.proofs.add_record.Symbol.{name as #session-record·add-record}
-use Rattle.session_record.proofs.add_record.Met as add-record-thm
+use Rattle.session_calls.proofs.add_record as add-record
+use Rattle.session_calls.proofs.add_record.Symbol as add-record-def
+use Rattle.session_calls.proofs.add_record.Symbol.{name as #session-calls·add-record}
+use Rattle.session_calls.proofs.add_record.Met as add-record-thm
 use Rattle.smb3seal.proofs.table.smb3seal_table_add.Key.{name as #smb3seal·table·smb3seal-table-add}
 use Rattle.smb3seal.proofs.table.smb3seal_table_add as add
 use Rattle.smb3seal.proofs.table.smb3seal_table_add.Statement as stated
@@ -132,7 +132,7 @@ module _ {M : Type 1} (𝓤 : URA M) (H : Heap 𝓤) (A : Atoms 𝓤) (W : Given
       owned ! u64 (Is u64) (uint-makes 𝓤 H A W w64) id _ (refl, id-fits) $ fjoin ! $ connection-owned ! c _ gc $ fjoin ! $ move ! (1 ∷ 0 ∷ []) $ fjoin ! $ frame ! $
       owned ! u32 (Is u32) (uint-makes 𝓤 H A W w32) r _ is $ done !
 
-  module _ (C : Calls 𝓤 H) (Λ : Loops 𝓤 H) (fm : FmC 𝓤 H (W .laws) C) (km : Triple 𝓤 (C #session-record·adding-for) (Makes 𝓤 H A mem run)) (kf : Triple 𝓤 (C #session-table·find) (Finds 𝓤 H A mem run)) (kg : Triple 𝓤 (C #session-table·at) (Gets 𝓤 H A mem run)) (ka : Triple 𝓤 (C #session-record·add-record) (Adds 𝓤 H A mem run)) (kp : Triple 𝓤 (C #session-table·put-at) (Puts 𝓤 H A mem run)) where
+  module _ (C : Calls 𝓤 H) (Λ : Loops 𝓤 H) (fm : FmC 𝓤 H (W .laws) C) (km : Triple 𝓤 (C #session-record·adding-for) (Makes 𝓤 H A mem run)) (kf : Triple 𝓤 (C #session-table·find) (Finds 𝓤 H A mem run)) (kg : Triple 𝓤 (C #session-table·at) (Gets 𝓤 H A mem run)) (ka : Triple 𝓤 (C #session-calls·add-record) (Adds 𝓤 H A mem run)) (kp : Triple 𝓤 (C #session-table·put-at) (Puts 𝓤 H A mem run)) where
     walk : ent 𝓤 (onEntry 𝓤 H A add.signature (κ, (μ₁, (μ₂, tt))) (q, (p₁, (p₂, tt))) a vals) (WpFn 𝓤 H C Λ code.function (sl ∷ mach-c c ∷ vint w64 id ∷ vint w32 guest ∷ vint w32 anonymous ∷ ml ∷ cl ∷ []) Post)
     walk =
         qed W ((‵ (flft κ q) ⊛ (‵ (flft μ₁ p₁) ⊛ (‵ (flft μ₂ p₂) ⊛ ‵ ftrue))) ∷ ‵ (owns (MutSlice (named 0) κ R ∷ ConnectionT ∷ u64 ∷ u32 ∷ u32 ∷ ShrSlice (named 1) μ₁ u8 ∷ ShrSlice (named 2) μ₂ u8 ∷ []) a vals) ∷ []) ∵ enter ! C Λ code.function (sl ∷ mach-c c ∷ vint w64 id ∷ vint w32 guest ∷ vint w32 anonymous ∷ ml ∷ cl ∷ []) _ $
@@ -177,7 +177,7 @@ module _ {M : Type 1} (𝓤 : URA M) (H : Heap 𝓤) (A : Atoms 𝓤) (W : Given
         keep ! (0 ∷ 2 ∷ 3 ∷ 1 ∷ 4 ∷ 5 ∷ []) $ by ! (exits (t .number) _ zs (parts .0) lz
         (added-says ys zs (addingFor c id guest anonymous) ms cs i f there old t e e′ ef eo (subst (λ (y : Adding). AddsWith (addingOf y cs ms) (flag (there .used)) (ltb f (length ys)) old (t .number) (t .session)) ex et) ez)))))))))))))))))))))))))))))))))))))
 
-add-meets : {M : Type 1} (𝓤 : URA M) (H : Heap 𝓤) (A : Atoms 𝓤) (W : Given 𝓤 H A) (mem : Memory → SProp 𝓤) (run : Routine → Fun 𝓤) (𝓣 : Tables 𝓤 H) → Triple 𝓤 (𝓣 .C #session-record·adding-for) (Makes 𝓤 H A mem run) → Triple 𝓤 (𝓣 .C #session-table·find) (Finds 𝓤 H A mem run) → Triple 𝓤 (𝓣 .C #session-table·at) (Gets 𝓤 H A mem run) → Triple 𝓤 (𝓣 .C #session-record·add-record) (Adds 𝓤 H A mem run) → Triple 𝓤 (𝓣 .C #session-table·put-at) (Puts 𝓤 H A mem run) → Meets 𝓤 H A add.signature (WpFn 𝓤 H (𝓣 .C) (𝓣 .Λ) code.function) (add.spec 𝓤 H A mem run)
+add-meets : {M : Type 1} (𝓤 : URA M) (H : Heap 𝓤) (A : Atoms 𝓤) (W : Given 𝓤 H A) (mem : Memory → SProp 𝓤) (run : Routine → Fun 𝓤) (𝓣 : Tables 𝓤 H) → Triple 𝓤 (𝓣 .C #session-record·adding-for) (Makes 𝓤 H A mem run) → Triple 𝓤 (𝓣 .C #session-table·find) (Finds 𝓤 H A mem run) → Triple 𝓤 (𝓣 .C #session-table·at) (Gets 𝓤 H A mem run) → Triple 𝓤 (𝓣 .C #session-calls·add-record) (Adds 𝓤 H A mem run) → Triple 𝓤 (𝓣 .C #session-table·put-at) (Puts 𝓤 H A mem run) → Meets 𝓤 H A add.signature (WpFn 𝓤 H (𝓣 .C) (𝓣 .Λ) code.function) (add.spec 𝓤 H A mem run)
 add-meets 𝓤 H A W mem run 𝓣 km kf kg ka kp =
     walk-meets 𝓤 H A add.ended stayed W (
       goes-gave-slice 𝓤 H A W 3 0 tt (plain (λ _. R)),
@@ -211,5 +211,5 @@ smb3seal-table-add-spec 𝓤 H 𝓜 𝓖 𝓡 =
     (cited 𝓤 H (Makes 𝓤 H (𝓖 .A) (𝓜 .mem) (𝓡 .run)) 𝓜 𝓡 code.env #session-record·adding-for adding-for-def.routine code.calls-session-record·adding-for (adding-for-thm.met 𝓤 H 𝓜 𝓖 𝓡))
     (cited 𝓤 H (Finds 𝓤 H (𝓖 .A) (𝓜 .mem) (𝓡 .run)) 𝓜 𝓡 code.env #session-table·find find-def.routine code.calls-session-table·find (find-thm.met 𝓤 H 𝓜 𝓖 𝓡))
     (cited 𝓤 H (Gets 𝓤 H (𝓖 .A) (𝓜 .mem) (𝓡 .run)) 𝓜 𝓡 code.env #session-table·at at-def.routine code.calls-session-table·at (at-thm.met 𝓤 H 𝓜 𝓖 𝓡))
-    (cited 𝓤 H (Adds 𝓤 H (𝓖 .A) (𝓜 .mem) (𝓡 .run)) 𝓜 𝓡 code.env #session-record·add-record add-record-def.routine code.calls-session-record·add-record (add-record-thm.met 𝓤 H 𝓜 𝓖 𝓡))
+    (cited 𝓤 H (Adds 𝓤 H (𝓖 .A) (𝓜 .mem) (𝓡 .run)) 𝓜 𝓡 code.env #session-calls·add-record add-record-def.routine code.calls-session-calls·add-record (add-record-thm.met 𝓤 H 𝓜 𝓖 𝓡))
     (cited 𝓤 H (Puts 𝓤 H (𝓖 .A) (𝓜 .mem) (𝓡 .run)) 𝓜 𝓡 code.env #session-table·put-at put-at-def.routine code.calls-session-table·put-at (put-at-thm.met 𝓤 H 𝓜 𝓖 𝓡)))

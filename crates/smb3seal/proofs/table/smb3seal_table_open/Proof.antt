@@ -45,10 +45,10 @@ use Rattle.session_record.proofs.session_id as session-id
 use Rattle.session_record.proofs.session_id.Symbol as session-id-def
 use Rattle.session_record.proofs.session_id.Symbol.{name as #session-record·session-id}
 use Rattle.session_record.proofs.session_id.Met as session-id-thm
-use Rattle.session_record.proofs.open_record as open-record
-use Rattle.session_record.proofs.open_record.Symbol as open-record-def
-use Rattle.session_record.proofs.open_record.Symbol.{name as #session-record·open-record}
-use Rattle.session_record.proofs.open_record.Met as open-record-thm
+use Rattle.session_calls.proofs.open_record as open-record
+use Rattle.session_calls.proofs.open_record.Symbol as open-record-def
+use Rattle.session_calls.proofs.open_record.Symbol.{name as #session-calls·open-record}
+use Rattle.session_calls.proofs.open_record.Met as open-record-thm
 use Rattle.smb3seal.proofs.table.smb3seal_table_open.Key.{name as #here}
 use Rattle.smb3seal.proofs.table.smb3seal_table_open as opening
 use Rattle.smb3seal.proofs.table.smb3seal_table_open.Statement as stated
@@ -108,7 +108,7 @@ module _ {M : Type 1} (𝓤 : URA M) (H : Heap 𝓤) (A : Atoms 𝓤) (W : Given
       nothing ! $ move ! (3 ∷ 0 ∷ []) $ fjoin ! $ move ! (2 ∷ 0 ∷ []) $ fjoin ! $ connection-owned ! c _ gc $ fjoin ! $ move ! (1 ∷ 0 ∷ []) $ fjoin ! $ frame ! $
       owned ! u32 (Is u32) (uint-makes 𝓤 H A W w32) r _ is $ done !
 
-  module _ (C : Calls 𝓤 H) (Λ : Loops 𝓤 H) (fm : FmC 𝓤 H (W .laws) C) (ki : Triple 𝓤 (C #session-record·session-id) (Ids 𝓤 H A mem run)) (kf : Triple 𝓤 (C #session-table·find) (Finds 𝓤 H A mem run)) (kg : Triple 𝓤 (C #session-table·at) (Gets 𝓤 H A mem run)) (ko : Triple 𝓤 (C #session-record·open-record) (Opens 𝓤 H A mem run)) (kr : Triple 𝓤 (C #answer·report) (Reporting 𝓤 H A mem run)) where
+  module _ (C : Calls 𝓤 H) (Λ : Loops 𝓤 H) (fm : FmC 𝓤 H (W .laws) C) (ki : Triple 𝓤 (C #session-record·session-id) (Ids 𝓤 H A mem run)) (kf : Triple 𝓤 (C #session-table·find) (Finds 𝓤 H A mem run)) (kg : Triple 𝓤 (C #session-table·at) (Gets 𝓤 H A mem run)) (ko : Triple 𝓤 (C #session-calls·open-record) (Opens 𝓤 H A mem run)) (kr : Triple 𝓤 (C #answer·report) (Reporting 𝓤 H A mem run)) where
     walk : ent 𝓤 (onEntry 𝓤 H A opening.signature (κ, (μ, (η, tt))) (q, (p, (w, tt))) a vals) (WpFn 𝓤 H C Λ code.function (sl ∷ mach-c c ∷ ml ∷ vptr b″ o″ ∷ []) Post)
     walk =
         qed W ((‵ (flft κ q) ⊛ (‵ (flft μ p) ⊛ (‵ (flft η w) ⊛ ‵ ftrue))) ∷ ‵ (owns (ShrSlice (named 0) κ R ∷ ConnectionT ∷ MutSlice (named 1) μ u8 ∷ MutRef (named 2) η u64 ∷ []) a vals) ∷ []) ∵ enter ! C Λ code.function (sl ∷ mach-c c ∷ ml ∷ vptr b″ o″ ∷ []) _ $
@@ -147,7 +147,7 @@ module _ {M : Type 1} (𝓤 : URA M) (H : Heap 𝓤) (A : Atoms 𝓤) (W : Given
         keep ! (4 ∷ 2 ∷ 1 ∷ 5 ∷ 3 ∷ 0 ∷ []) $ by ! (exits r (ws .1 .1 .0) (ws″ .1 .0) gr lf
         (reported-alone (opening (connectionOf c)) _ _ (answerOf x) (opened-says (connectionOf c) ms ys id i (ws .1 .1 .0) s (answerOf x) e₀ e e′ said) r (told .0) h (ws″ .1 .0) (told .1))))))))))))))))))))))))
 
-open-meets : {M : Type 1} (𝓤 : URA M) (H : Heap 𝓤) (A : Atoms 𝓤) (W : Given 𝓤 H A) (mem : Memory → SProp 𝓤) (run : Routine → Fun 𝓤) (𝓣 : Tables 𝓤 H) → Triple 𝓤 (𝓣 .C #session-record·session-id) (Ids 𝓤 H A mem run) → Triple 𝓤 (𝓣 .C #session-table·find) (Finds 𝓤 H A mem run) → Triple 𝓤 (𝓣 .C #session-table·at) (Gets 𝓤 H A mem run) → Triple 𝓤 (𝓣 .C #session-record·open-record) (Opens 𝓤 H A mem run) → Triple 𝓤 (𝓣 .C #answer·report) (Reporting 𝓤 H A mem run) → Meets 𝓤 H A opening.signature (WpFn 𝓤 H (𝓣 .C) (𝓣 .Λ) code.function) (opening.spec 𝓤 H A mem run)
+open-meets : {M : Type 1} (𝓤 : URA M) (H : Heap 𝓤) (A : Atoms 𝓤) (W : Given 𝓤 H A) (mem : Memory → SProp 𝓤) (run : Routine → Fun 𝓤) (𝓣 : Tables 𝓤 H) → Triple 𝓤 (𝓣 .C #session-record·session-id) (Ids 𝓤 H A mem run) → Triple 𝓤 (𝓣 .C #session-table·find) (Finds 𝓤 H A mem run) → Triple 𝓤 (𝓣 .C #session-table·at) (Gets 𝓤 H A mem run) → Triple 𝓤 (𝓣 .C #session-calls·open-record) (Opens 𝓤 H A mem run) → Triple 𝓤 (𝓣 .C #answer·report) (Reporting 𝓤 H A mem run) → Meets 𝓤 H A opening.signature (WpFn 𝓤 H (𝓣 .C) (𝓣 .Λ) code.function) (opening.spec 𝓤 H A mem run)
 open-meets 𝓤 H A W mem run 𝓣 ki kf kg ko kr =
     walk-meets 𝓤 H A opening.ended stayed W (goes-none-slice 𝓤 H A W 3 (0 ∷ []) tt (plain (λ _. R)) yes, (goes-none 𝓤 H A W 3 (λ _. ConnectionT) yes (λ κs x f. refl), (goes-gave-slice 𝓤 H A W 3 1 tt (plain (λ _. u8)), (goes-gave-ref 𝓤 H A W 3 2 tt (plain (λ _. u64)), tt)))) (opening.clauses 𝓤 H A mem run)
     (WpFn 𝓤 H (𝓣 .C) (𝓣 .Λ) code.function) (WpFn-mono 𝓤 H (W .laws) 𝓣 code.function)
@@ -164,5 +164,5 @@ smb3seal-table-open-spec 𝓤 H 𝓜 𝓖 𝓡 =
     (cited 𝓤 H (Ids 𝓤 H (𝓖 .A) (𝓜 .mem) (𝓡 .run)) 𝓜 𝓡 code.env #session-record·session-id session-id-def.routine code.calls-session-record·session-id (session-id-thm.met 𝓤 H 𝓜 𝓖 𝓡))
     (cited 𝓤 H (Finds 𝓤 H (𝓖 .A) (𝓜 .mem) (𝓡 .run)) 𝓜 𝓡 code.env #session-table·find find-def.routine code.calls-session-table·find (find-thm.met 𝓤 H 𝓜 𝓖 𝓡))
     (cited 𝓤 H (Gets 𝓤 H (𝓖 .A) (𝓜 .mem) (𝓡 .run)) 𝓜 𝓡 code.env #session-table·at at-def.routine code.calls-session-table·at (at-thm.met 𝓤 H 𝓜 𝓖 𝓡))
-    (cited 𝓤 H (Opens 𝓤 H (𝓖 .A) (𝓜 .mem) (𝓡 .run)) 𝓜 𝓡 code.env #session-record·open-record open-record-def.routine code.calls-session-record·open-record (open-record-thm.met 𝓤 H 𝓜 𝓖 𝓡))
+    (cited 𝓤 H (Opens 𝓤 H (𝓖 .A) (𝓜 .mem) (𝓡 .run)) 𝓜 𝓡 code.env #session-calls·open-record open-record-def.routine code.calls-session-calls·open-record (open-record-thm.met 𝓤 H 𝓜 𝓖 𝓡))
     (cited 𝓤 H (Reporting 𝓤 H (𝓖 .A) (𝓜 .mem) (𝓡 .run)) 𝓜 𝓡 code.env #answer·report report-def.routine code.calls-answer·report (report-thm.met 𝓤 H 𝓜 𝓖 𝓡)))

@@ -47,10 +47,10 @@ use Rattle.session_table.proofs.at.Met as at-thm
 use Rattle.session_table.proofs.step.Symbol as step-def
 use Rattle.session_table.proofs.step.Symbol.{name as #session-table·step}
 use Rattle.session_table.proofs.step.Met as step-thm
-use Rattle.session_record.proofs.seal_record as seal-record
-use Rattle.session_record.proofs.seal_record.Symbol as seal-record-def
-use Rattle.session_record.proofs.seal_record.Symbol.{name as #session-record·seal-record}
-use Rattle.session_record.proofs.seal_record.Met as seal-record-thm
+use Rattle.session_calls.proofs.seal_record as seal-record
+use Rattle.session_calls.proofs.seal_record.Symbol as seal-record-def
+use Rattle.session_calls.proofs.seal_record.Symbol.{name as #session-calls·seal-record}
+use Rattle.session_calls.proofs.seal_record.Met as seal-record-thm
 use Rattle.session_record.proofs.counter_moves as counter-moves
 use Rattle.session_record.proofs.counter_moves.Symbol as counter-moves-def
 use Rattle.session_record.proofs.counter_moves.Symbol.{name as #session-record·counter-moves}
@@ -118,7 +118,7 @@ module _ {M : Type 1} (𝓤 : URA M) (H : Heap 𝓤) (A : Atoms 𝓤) (W : Given
       nothing ! $ move ! (3 ∷ 0 ∷ []) $ fjoin ! $ move ! (2 ∷ 0 ∷ []) $ fjoin ! $ owned ! u64 (Is u64) (uint-makes 𝓤 H A W w64) id _ (refl, id-fits) $ fjoin ! $ connection-owned ! c _ gc $ fjoin ! $ move ! (1 ∷ 0 ∷ []) $ fjoin ! $ frame ! $
       owned ! u32 (Is u32) (uint-makes 𝓤 H A W w32) r _ is $ done !
 
-  module _ (C : Calls 𝓤 H) (Λ : Loops 𝓤 H) (fm : FmC 𝓤 H (W .laws) C) (kf : Triple 𝓤 (C #session-table·find) (Finds 𝓤 H A mem run)) (kg : Triple 𝓤 (C #session-table·at) (Gets 𝓤 H A mem run)) (ks : Triple 𝓤 (C #session-record·seal-record) (Seals 𝓤 H A mem run)) (kh : Triple 𝓤 (C #session-record·counter-moves) (HowFar 𝓤 H A mem run)) (kp : Triple 𝓤 (C #session-table·step) (Moves 𝓤 H A mem run)) (kr : Triple 𝓤 (C #answer·report) (Reporting 𝓤 H A mem run)) where
+  module _ (C : Calls 𝓤 H) (Λ : Loops 𝓤 H) (fm : FmC 𝓤 H (W .laws) C) (kf : Triple 𝓤 (C #session-table·find) (Finds 𝓤 H A mem run)) (kg : Triple 𝓤 (C #session-table·at) (Gets 𝓤 H A mem run)) (ks : Triple 𝓤 (C #session-calls·seal-record) (Seals 𝓤 H A mem run)) (kh : Triple 𝓤 (C #session-record·counter-moves) (HowFar 𝓤 H A mem run)) (kp : Triple 𝓤 (C #session-table·step) (Moves 𝓤 H A mem run)) (kr : Triple 𝓤 (C #answer·report) (Reporting 𝓤 H A mem run)) where
     walk : ent 𝓤 (onEntry 𝓤 H A seal.signature (κ, (μ, (η, tt))) (q, (p, (w, tt))) a vals) (WpFn 𝓤 H C Λ code.function (sl ∷ mach-c c ∷ vint w64 id ∷ ml ∷ vptr b″ o″ ∷ []) Post)
     walk =
         qed W ((‵ (flft κ q) ⊛ (‵ (flft μ p) ⊛ (‵ (flft η w) ⊛ ‵ ftrue))) ∷ ‵ (owns (MutSlice (named 0) κ R ∷ ConnectionT ∷ u64 ∷ MutSlice (named 1) μ u8 ∷ MutRef (named 2) η u64 ∷ []) a vals) ∷ []) ∵ enter ! C Λ code.function (sl ∷ mach-c c ∷ vint w64 id ∷ ml ∷ vptr b″ o″ ∷ []) _ $
@@ -163,7 +163,7 @@ module _ {M : Type 1} (𝓤 : URA M) (H : Heap 𝓤) (A : Atoms 𝓤) (W : Given
         by ! (exits r zs (ws .1 .1 .1 .0) (ws″ .1 .0) gr lz lf
         (reported-alone (sealing (connectionOf c) id) _ _ (answerOf x) (all .0) r (told .0) h (ws″ .1 .0) (told .1), all .1))))))))))))))))))))))))))))))
 
-seal-meets : {M : Type 1} (𝓤 : URA M) (H : Heap 𝓤) (A : Atoms 𝓤) (W : Given 𝓤 H A) (mem : Memory → SProp 𝓤) (run : Routine → Fun 𝓤) (𝓣 : Tables 𝓤 H) → Triple 𝓤 (𝓣 .C #session-table·find) (Finds 𝓤 H A mem run) → Triple 𝓤 (𝓣 .C #session-table·at) (Gets 𝓤 H A mem run) → Triple 𝓤 (𝓣 .C #session-record·seal-record) (Seals 𝓤 H A mem run) → Triple 𝓤 (𝓣 .C #session-record·counter-moves) (HowFar 𝓤 H A mem run) → Triple 𝓤 (𝓣 .C #session-table·step) (Moves 𝓤 H A mem run) → Triple 𝓤 (𝓣 .C #answer·report) (Reporting 𝓤 H A mem run) → Meets 𝓤 H A seal.signature (WpFn 𝓤 H (𝓣 .C) (𝓣 .Λ) code.function) (seal.spec 𝓤 H A mem run)
+seal-meets : {M : Type 1} (𝓤 : URA M) (H : Heap 𝓤) (A : Atoms 𝓤) (W : Given 𝓤 H A) (mem : Memory → SProp 𝓤) (run : Routine → Fun 𝓤) (𝓣 : Tables 𝓤 H) → Triple 𝓤 (𝓣 .C #session-table·find) (Finds 𝓤 H A mem run) → Triple 𝓤 (𝓣 .C #session-table·at) (Gets 𝓤 H A mem run) → Triple 𝓤 (𝓣 .C #session-calls·seal-record) (Seals 𝓤 H A mem run) → Triple 𝓤 (𝓣 .C #session-record·counter-moves) (HowFar 𝓤 H A mem run) → Triple 𝓤 (𝓣 .C #session-table·step) (Moves 𝓤 H A mem run) → Triple 𝓤 (𝓣 .C #answer·report) (Reporting 𝓤 H A mem run) → Meets 𝓤 H A seal.signature (WpFn 𝓤 H (𝓣 .C) (𝓣 .Λ) code.function) (seal.spec 𝓤 H A mem run)
 seal-meets 𝓤 H A W mem run 𝓣 kf kg ks kh kp kr =
     walk-meets 𝓤 H A seal.ended stayed W (goes-gave-slice 𝓤 H A W 3 0 tt (plain (λ _. R)), (goes-none 𝓤 H A W 3 (λ _. ConnectionT) yes (λ κs x f. refl), (goes-none 𝓤 H A W 3 (λ _. u64) yes (λ κs x f. refl), (goes-gave-slice 𝓤 H A W 3 1 tt (plain (λ _. u8)), (goes-gave-ref 𝓤 H A W 3 2 tt (plain (λ _. u64)), tt))))) (seal.clauses 𝓤 H A mem run)
     (WpFn 𝓤 H (𝓣 .C) (𝓣 .Λ) code.function) (WpFn-mono 𝓤 H (W .laws) 𝓣 code.function)
@@ -179,7 +179,7 @@ smb3seal-table-seal-spec 𝓤 H 𝓜 𝓖 𝓡 =
     (seal-meets 𝓤 H (𝓖 .A) (givenOf 𝓤 H 𝓜 𝓖) (𝓜 .mem) (𝓡 .run) (tablesOf 𝓤 H 𝓜 (tables 𝓤 H 𝓜 𝓡 code.env))
     (cited 𝓤 H (Finds 𝓤 H (𝓖 .A) (𝓜 .mem) (𝓡 .run)) 𝓜 𝓡 code.env #session-table·find find-def.routine code.calls-session-table·find (find-thm.met 𝓤 H 𝓜 𝓖 𝓡))
     (cited 𝓤 H (Gets 𝓤 H (𝓖 .A) (𝓜 .mem) (𝓡 .run)) 𝓜 𝓡 code.env #session-table·at at-def.routine code.calls-session-table·at (at-thm.met 𝓤 H 𝓜 𝓖 𝓡))
-    (cited 𝓤 H (Seals 𝓤 H (𝓖 .A) (𝓜 .mem) (𝓡 .run)) 𝓜 𝓡 code.env #session-record·seal-record seal-record-def.routine code.calls-session-record·seal-record (seal-record-thm.met 𝓤 H 𝓜 𝓖 𝓡))
+    (cited 𝓤 H (Seals 𝓤 H (𝓖 .A) (𝓜 .mem) (𝓡 .run)) 𝓜 𝓡 code.env #session-calls·seal-record seal-record-def.routine code.calls-session-calls·seal-record (seal-record-thm.met 𝓤 H 𝓜 𝓖 𝓡))
     (cited 𝓤 H (HowFar 𝓤 H (𝓖 .A) (𝓜 .mem) (𝓡 .run)) 𝓜 𝓡 code.env #session-record·counter-moves counter-moves-def.routine code.calls-session-record·counter-moves (counter-moves-thm.met 𝓤 H 𝓜 𝓖 𝓡))
     (cited 𝓤 H (Moves 𝓤 H (𝓖 .A) (𝓜 .mem) (𝓡 .run)) 𝓜 𝓡 code.env #session-table·step step-def.routine code.calls-session-table·step (step-thm.met 𝓤 H 𝓜 𝓖 𝓡))
     (cited 𝓤 H (Reporting 𝓤 H (𝓖 .A) (𝓜 .mem) (𝓡 .run)) 𝓜 𝓡 code.env #answer·report report-def.routine code.calls-answer·report (report-thm.met 𝓤 H 𝓜 𝓖 𝓡)))

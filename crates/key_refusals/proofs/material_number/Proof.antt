@@ -1,0 +1,12 @@
+-- Right because each line is the test of the list in the same order.
+-- Assumes nothing.
+use mathlib.Core.Path.{_∙_}
+use borrow.Author.Needs.{needs}
+use Rattle.key_refusals.proofs.material_number.Statement.{statement}
+use Rattle.key_refusals.proofs.material_number.Tie as tie
+
+returns : tie.Need-returns
+returns c = c .refuse2 .ensures ∙ rw (c .before .known-dialect .ensures, c .before .before .refuse .ensures, c .before .before .before .longest-material .ensures, c .before .before .before .before .is-wide .ensures)
+
+pub material-number-spec : {M : Type 1} → statement M
+material-number-spec = tie.close (tie.spec (λ c κs. search needs) (λ c κs. search needs) (λ c κs. search needs) (λ c κs. search needs) (λ c κs. search needs) returns)

@@ -1,0 +1,3 @@
+mod Sealing
+mod Opening
+mod AddingLaws

@@ -1,0 +1,22 @@
+-- Right because nothing is stored unless every test has passed, and then the derived keys (AddingLaws).
+-- Assumes nothing.
+use Rattle.connection.specs.Reading.{flag}
+use Rattle.session_calls.proofs.AddingLaws.{add-refused, add-done}
+use borrow.Author.Needs.{needs}
+use Rattle.session_calls.proofs.add_record.Statement.{statement}
+use Rattle.session_calls.proofs.add_record.Tie as tie
+
+returns : tie.Need-returns
+returns c =
+    let x = c .before .before .before .before .before .before .before .args in
+    add-refused (x .a) (x .chain .now) (x .material .now) (flag (x .there .used)) (x .room) (x .old) _ _ _ (c .before .before .before .place-number .ensures)
+    (c .before .before .material-number .ensures) (c .before .refuse .ensures) (c .if1 .taken)
+
+returns-2 : tie.Need-returns-2
+returns-2 c =
+    let x = c .before .before .before .before .before .before .before .before .before .args in
+    add-done (x .a) (x .chain .now) (x .material .now) (flag (x .there .used)) (x .room) (x .old) _ _ _ (c .before .before .before .before .before .place-number .ensures)
+    (c .before .before .before .before .material-number .ensures) (c .before .before .before .refuse .ensures) (c .before .before .if1 .left) _ _ (c .before .derived .ensures) (c .fresh .ensures)
+
+pub add-record-spec : {M : Type 1} → statement M
+add-record-spec = tie.close (tie.spec (λ c κs. search needs) (λ c κs. search needs) (λ c κs. search needs) returns (λ c κs. search needs) (λ c κs. search needs) returns-2)
