@@ -1,4 +1,4 @@
-// What a connection agreed on (RULES 1 and 6). Every function above takes it by value.
+// What a connection agreed on (RULES 1 and 3). Every function above takes it by value.
 ghost use mathlib.Core.Path.{_≡_};
 ghost use Prim.Native.Nat.{_+_};
 ghost use lib.Dec.{leb};

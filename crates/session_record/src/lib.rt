@@ -1,4 +1,4 @@
-// One session record by value, and what each call with the session table does with it (RULES 7 and the numbers 1 to 22).
+// One session record by value, and what each call with the session table does with it (RULES 10).
 mod lines;
 mod new;
 

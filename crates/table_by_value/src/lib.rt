@@ -1,5 +1,6 @@
 // The calls with a session table that the caller holds by value: what the exports of `smb3seal` do with a lent run of records, for a
-// program that keeps its table in a local. Each finds the place, takes the record there by value, and puts back what `session_record` makes of it.
+// program that keeps its table in a local (RULES 10). Each finds the place and takes the record there by value; those that change the table put
+// back what `session_record` makes of it.
 use answer::Answer;
 use connection::Connection;
 use session_record::Adding;
@@ -121,7 +122,7 @@ pub fn remove_in(from: Table, id: u64) -> ChangedIn
     }
 }
 
-// Seals the message in place for the session of the id: 1, 2, 3, 6, 7, 8, 11 to 16, 17. Refused, message and table are as they were.
+// Seals the message in place for the session of the id: 1, 2, 3, 6, 7, 8, 35, 11 to 16, 17. Refused, message and table are as they were.
 pub fn seal_in(from: Table, c: Connection, id: u64, message: &mut [u8]) -> SealedIn
     ensures { λ r. ⌜ Makes (sealing (connectionOf c) id) (messageAndTable (now (message .entry)) (tableOf (from .records))) (answerOf (r .answer)) (messageAndTable (now (message .exit)) (tableOf (r .table .records)))
         × Exactly (sealing (connectionOf c) id) (messageAndTable (now (message .entry)) (tableOf (from .records))) (from .records) (r .table .records) ⌝ }
@@ -136,7 +137,7 @@ pub fn seal_in(from: Table, c: Connection, id: u64, message: &mut [u8]) -> Seale
     }
 }
 
-// Opens the message in place with the session that its header names: 1 to 16. Refused, the message is as it was lent.
+// Opens the message in place with the session that its header names: 1 to 5, 29, 6, 7, 8, 35, 9 to 16. Refused, the message is as it was lent.
 pub fn open_in(from: Table, c: Connection, message: &mut [u8]) -> Answer
     ensures { λ r. ⌜ Makes (opening (connectionOf c)) (messageAndTable (now (message .entry)) (tableOf (from .records))) (answerOf r) (messageAndTable (now (message .exit)) (tableOf (from .records))) ⌝ }
 {
