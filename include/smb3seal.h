@@ -229,7 +229,7 @@ extern "C" {
 /*
  * Folds a negotiate request or response, or a session setup request, into a preauthentication hash value: the value becomes SHA-512
  * of the old value followed by the message. A fresh value is 64 zero bytes. Negotiate messages are folded into the connection's
- * value; a session's value starts as a copy of that, and takes the session's own setup messages. Where a login fails its value is
+ * value; a session's value starts as a copy of that, and takes the session's own setup messages. Where a login fails, its value is
  * dropped, and the next attempt starts from a new copy of the connection's.
  *
  * chain    reads and writes: the value, SMB3SEAL_CHAIN_BYTES long
