@@ -27,13 +27,6 @@
  *     smb3seal_seal            a message made ready to send
  *     smb3seal_open            a received message decrypted, if every check holds
  *
- * For support, what passes on a connection can be recorded as a lab trace, which smb3seal-replay replays:
- *
- *     smb3seal_trace_head       the head of a trace, written
- *     smb3seal_trace_record     a record behind it
- *     smb3seal_trace_read_head  the head, read
- *     smb3seal_trace_read       a record, read
- *
  * smb3seal_connection_derive, smb3seal_connection_seal and smb3seal_connection_open are the same three for a program that has its
  * connection as a struct.
  *
@@ -49,17 +42,27 @@
  *     smb3seal_sign_finish     its signature
  *     smb3seal_verify_finish   or whether it verifies
  *
+ * For support, what passes on a connection can be recorded as a lab trace, which smb3seal-replay replays:
+ *
+ *     smb3seal_trace_head       the head of a trace, written
+ *     smb3seal_trace_record     a record behind it
+ *     smb3seal_trace_read_head  the head, read
+ *     smb3seal_trace_read       a record, read
+ *     smb3seal_trace_rescue     what is good of a damaged trace, copied
+ *
  * No function allocates, locks, calls back or keeps anything outside of what it is lent: calls on different buffers may run in
  * different threads. Each is total: any numbers, any bytes, any table and any lengths get an answer.
  *
  * - A buffer is a pointer and a length in bytes, and may have any alignment. A table is a pointer to its first record and the number of
- *   records. No pointer may be null, also where the length is 0.
- * - Buffers and table of one call do not overlap, a lent number (counter, headers, folded, at) lies in none of them, and each pointer has
- *   as many bytes or records behind it as its length says. The library cannot check this, nor that a counter value is new under its
- *   key, nor that a table is the one that the call before left.
+ *   records, and the gaps of a rescue are one to the first of them and how many numbers fit. No pointer may be null, also where the
+ *   length is 0.
+ * - Buffers and table of one call do not overlap. A lent number (counter, headers, folded; of a trace at, dialect, cipher, kind,
+ *   from_server, payload, payload_len, written, count) lies in none of them and in no other number. Each pointer has as many bytes,
+ *   records or numbers behind it as its length says. The library cannot check this, nor that a counter value is new under its key, nor
+ *   that a table is the one that the call before left.
  * - Each function but smb3seal_table_find returns SMB3SEAL_DONE (0), or the number of the one reason for which it refused; those for
  *   pieces return it as the `number` of a step, beside the state. After a refusal every byte and every number that was lent is as it
- *   was: message, table, counter, headers, folded, chain, keys, trace.
+ *   was: message, table, counter, headers, folded, chain, keys, signature, and of a trace each place that a call writes.
  * - Where several reasons apply, SMB3SEAL_BAD_LENGTH comes first and then the lowest number wins; but 29 stands between 5 and 6, 35 between 8
  *   and 9, and the walk over the headers of a compounded message ends at the first header that breaks a rule.
  *
@@ -226,7 +229,8 @@ extern "C" {
 /*
  * Folds a negotiate request or response, or a session setup request, into a preauthentication hash value: the value becomes SHA-512
  * of the old value followed by the message. A fresh value is 64 zero bytes. Negotiate messages are folded into the connection's
- * value; a session's value starts as a copy of that, and takes the session's own setup messages.
+ * value; a session's value starts as a copy of that, and takes the session's own setup messages. Where a login fails, its value is
+ * dropped, and the next attempt starts from a new copy of the connection's.
  *
  * chain    reads and writes: the value, SMB3SEAL_CHAIN_BYTES long
  * message  reads: the whole message from its SMB 2 header on, without the transport's length field

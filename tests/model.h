@@ -1,5 +1,5 @@
 /*
- * The rules of the rules a second time, on top of OpenSSL: written from the papers, and sharing nothing with the library but this
+ * The rules a second time, on top of OpenSSL: written from the papers, and sharing nothing with the library but this
  * shape of the functions. include/smb3seal.h says what they take.
  */
 #ifndef MODEL_H

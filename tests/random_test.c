@@ -43,7 +43,7 @@ int main(int argc, char **argv)
         uint32_t r = compare(&c, &heap);
         if (c.function == OPEN) another = names_another(&c);
         if (r == 0 && another) notices[c.function]++;
-        if (r >= NUMBERS) fail("a number that the rules does not have", r);
+        if (r >= NUMBERS) fail("a number that the rules do not have", r);
         seen[c.function][r]++;
         if (r == 0 && c.dialect == 0x0311 && c.cipher <= CIPHERS) done[c.function][c.cipher]++;
         if (r == 19 && c.key.len > 0) long_material++;

@@ -1,4 +1,4 @@
-// What a connection agreed on (RULES 1 and 6). Every function above takes it by value, and finds the limits and the numbers of dialects and
+// What a connection agreed on (RULES 1 and 3). Every function above takes it by value, and finds the limits and the numbers of dialects and
 // ciphers here too.
 pub use dialects::cipher_key_bytes;
 pub use dialects::is_gcm;

@@ -1,4 +1,4 @@
--- What a connection agreed on: RULES 1, 6 and its numbers 1, 3, 7, 17, 19, 29, 35 and 40. Every call takes it whole;
+-- What a connection agreed on: RULES 1 and 3, and the numbers 1, 3, 7, 17, 19, 29, 35 and 40. Every call takes it whole;
 -- a call under one given key does not look at the constraint.
 -- Assumes nothing.
 use mathlib.Core.Bool.{Bool, true, false, cond, not, _&&_, _||_}

@@ -82,7 +82,7 @@ pub record Keys : Type 0 where
   pub clientToServer : Bytes
   pub serverToClient : Bytes
 
--- RULES 2: "writes the four keys in the order of the table"
+-- RULES 7.6: "writes the four keys in the order of the table"
 abbrev pub keysInOrder : Keys → Bytes
 keysInOrder k = k .signing ++ (k .application ++ (k .clientToServer ++ k .serverToClient))
 

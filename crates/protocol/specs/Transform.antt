@@ -1,4 +1,4 @@
--- What sealing writes and opening reads under a key: RULES 4 and 6. "Sealing" is our word for
+-- What sealing writes and opening reads under a key: RULES 4 to 6. "Sealing" is our word for
 -- encrypting a message and giving it its transform header (MS-SMB2 3.1.4.3), "opening" for the way back (MS-SMB2 3.3.5.2.1.1). The
 -- primitives are parameters here; the suite puts the lower crates' definitions in their place.
 -- Assumes nothing.

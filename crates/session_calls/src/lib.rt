@@ -1,4 +1,4 @@
-// What sealing, opening and adding do with one session record by value (RULES 7 and the numbers 1 to 22).
+// What sealing, opening and adding do with one session record by value (RULES 10).
 use answer::Answer;
 use answer::refuse;
 use connection::Connection;
@@ -29,7 +29,7 @@ pub fn seal_record(s: Session, c: Connection, id: u64, message: &mut [u8]) -> An
     out
 }
 
-// Opens the message in place: 1 to 16, 29 after 5 and 35 after 8. Refused, the message is as it was.
+// Opens the message in place: 1 to 5, 29, 6, 7, 8, 35, 9 to 16. Refused, the message is as it was.
 pub fn open_record(s: Session, c: Connection, message: &mut [u8]) -> Answer
     ensures { λ r. ⌜ OpensWith (sessionOf s) (connectionOf c) (now (message .entry)) (now (message .exit)) (answerOf r) ⌝ }
 {

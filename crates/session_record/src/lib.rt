@@ -1,4 +1,5 @@
-// One session record by value, and what each call with the session table does with it (RULES 7 and the numbers 1 to 22).
+// One session record by value: what there is to find out about it and to change of it (RULES 10). The calls that seal, open and add with it are in
+// `session_calls`.
 pub mod lines;
 pub mod new;
 

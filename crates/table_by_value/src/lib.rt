@@ -1,5 +1,5 @@
-// A session table that its program holds by value, and the two calls that the lab makes with it: what the exports of `smb3seal` do with a
-// lent run of records. Each finds the place, takes the record there, and puts back what `session_calls` makes of it.
+// A session table that its program holds by value, and the two calls that the lab makes with it (RULES 10): what the exports of `smb3seal` do
+// with a lent run of records. Each finds the place, takes the record there, and puts back what `session_calls` makes of it.
 use answer::Answer;
 use connection::Connection;
 use session_record::Adding;
@@ -92,7 +92,7 @@ pub fn add_in(from: Table, a: Adding, material: &[u8], chain: &[u8]) -> ChangedI
     }
 }
 
-// Opens the message in place with the session that its header names: 1 to 16, 29 after 5 and 35 after 8. Refused, the message is as it was
+// Opens the message in place with the session that its header names: 1 to 5, 29, 6, 7, 8, 35, 9 to 16. Refused, the message is as it was
 // lent.
 pub fn open_in(from: Table, c: Connection, message: &mut [u8]) -> Answer
     ensures { λ r. ⌜ Makes (opening (connectionOf c)) (messageAndTable (now (message .entry)) (tableOf (from .records))) (answerOf r) (messageAndTable (now (message .exit)) (tableOf (from .records))) ⌝ }

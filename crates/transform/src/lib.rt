@@ -1,4 +1,4 @@
-// Sealing and opening in place under one given key (RULES 4; MS-SMB2 3.1.4.3, 3.2.5.1.1 and 3.3.5.2.1).
+// Sealing and opening in place under one given key (RULES 5 and 6; MS-SMB2 3.1.4.3, 3.2.5.1.1 and 3.3.5.2.1).
 mod body;
 mod cipher;
 
@@ -18,7 +18,7 @@ pub struct Sealed {
     pub counter: u64,
 }
 
-// Opens the message in place: 40, 1 to 6, 9 to 16. Refused, the message is as it was lent.
+// Opens the message in place: 40, 1 to 5, 29, 6, 9 to 16. Refused, the message is as it was lent.
 pub fn open_under(c: Connection, key: &[u8], id: u64, message: &mut [u8]) -> Answer
     ensures { λ r. ⌜ Makes (openingUnder (connectionOf c) (now (key .entry)) id) (onlyMessage (now (message .entry))) (answerOf r) (onlyMessage (now (message .exit))) ⌝ }
 {
