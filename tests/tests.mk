@@ -52,7 +52,6 @@ outside-tests: consistency examples packaging rust symbols programs replay rescu
 consistency:
 	@rt fmt --check
 	@scripts/vectors --check
-	@scripts/test-with "the file that the exchange must write" python3-cryptography -- scripts/exchange --check
 	@scripts/test-with "the trace of the gate, and its lines" python3-cryptography -- scripts/lab-trace --check
 	@scripts/numbers --check
 	@scripts/docs-check
