@@ -1,11 +1,12 @@
 // A message folded as it arrives (RULES 8): the running hash is handed on from piece to piece.
 use answer::Answer;
+use blocks::at_most;
 use runs::copy;
 use sha512::Sha512;
 ghost use mathlib.Core.Path.{_≡_};
 ghost use mathlib.Core.Bool.{true};
 ghost use mathlib.Core.List.{List, _++_};
-ghost use Prim.Native.Nat.{ℕ, _+_, min};
+ghost use Prim.Native.Nat.{ℕ, _+_};
 ghost use lib.ListN.{length, take};
 ghost use Rattle.protocol.specs.Preauth.{negotiateMessage, setupRequest, setupResponse, moreProcessing};
 ghost use Rattle.protocol.specs.Pieces.{Underway};
@@ -72,12 +73,6 @@ pub fn begin(chain: &[u8]) -> FoldStep
         spare: [0u8; 3],
     };
     step(state, 0)
-}
-
-fn at_most(n: usize, limit: usize) -> usize
-    ensures { λ r. ⌜ r ≡ min n limit ⌝ }
-{
-    if n < limit { n } else { limit }
 }
 
 // The first twelve bytes of what is joined, with the piece behind it.
