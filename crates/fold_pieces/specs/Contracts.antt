@@ -3,15 +3,15 @@
 -- Assumes nothing.
 use mathlib.Core.Path.{_≡_}
 use mathlib.Core.Logic.{_≢_}
-use mathlib.Core.Bool.{Bool, true, false, cond, not}
+use mathlib.Core.Bool.{Bool, true, false, cond}
 use mathlib.Core.List.{List, [], _∷_}
 use lib.Dec.{eqb}
 use lib.ListN.{length}
 use Rattle.protocol.specs.Bytes.{Bytes}
-use Rattle.protocol.specs.Answer.{Answer, done, answerNumber, carried, Test, refuse_when_, judge}
+use Rattle.protocol.specs.Answer.{Answer, done, answerNumber, carried, Test, judge}
 use Rattle.protocol.specs.Preauth.{FoldKind, admitted, statusAllows}
 use Rattle.protocol.specs.Pieces.{Underway, notBegun, messageOf}
-use Rattle.protocol.specs.Refusals.{badLength}
+use Rattle.protocol.specs.Refusals.{foldLength, badLength}
 use Rattle.protocol.specs.Calls.{Call, foldBeginning, foldFinishing, onlyUnderway, chainAndUnderway, answer, left}
 use Rattle.protocol.specs.Contract.{Makes}
 use Rattle.protocol.specs.Suite.{suite}
@@ -44,7 +44,7 @@ pub record FinishedAs (r : FoldStep) (a : Answer) : Type 0 where
 
 -- a finish into the value v, with the state s and a status that allows it or not
 abbrev pub endLines : FoldState → Bytes → List Test
-endLines s v = badLength (eqb (length v) 64) ∷ (refuse 23 when not (ends s)) ∷ []
+endLines s v = badLength (eqb (length v) 64) ∷ foldLength (ends s) ∷ []
 
 abbrev pub endAnswer : FoldState → Bool → Bytes → Answer
 endAnswer s allowed v = judge (endLines s v) (done (cond allowed 1 0))

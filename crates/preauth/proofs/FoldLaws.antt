@@ -23,7 +23,7 @@ use Rattle.answer.specs.Reading.{marked}
 -- a call that folds the message m into the chain value that it is lent
 module _ (call : Call) (w : Lent) (kind : FoldKind) (m : Bytes) (alone : tests suite call w ≡ foldTests kind (w .chain) m) where
   abbrev lines : List Test
-  lines = chainTests (w .chain) ++ (foldLength m ∷ [])
+  lines = chainTests (w .chain) ++ (foldLength (admitted m) ∷ [])
 
   -- what is answered, once the lines have been tested
   answered : (n : ℕ) → n ≡ firstOf lines → (n ≡ 0 → ⊥) → refused n ≡ answer suite call w
@@ -66,7 +66,7 @@ module _ (kind : FoldKind) (v m : Bytes) where
 
   pub fold-mark : (h : ℕ) → marked (answer suite (folding kind m) (onlyChain v)) h ≡ carried (answer suite (folding kind m) (onlyChain v)) h
   unfolding tests
-  fold-mark h = mark-carried (chainTests v ++ (foldLength m ∷ [])) (statusAllows kind m) h
+  fold-mark h = mark-carried (chainTests v ++ (foldLength (admitted m) ∷ [])) (statusAllows kind m) h
 
   pub fold-leaves : statusAllows kind m ≡ false → onlyChain v ≡ effect suite (folding kind m) (onlyChain v)
   unfolding effect
