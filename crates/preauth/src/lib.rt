@@ -4,9 +4,10 @@ use little_endian::u32_at;
 use runs::copy;
 use sha512::Sha512;
 ghost use mathlib.Core.Path.{_≡_};
-ghost use mathlib.Core.Bool.{true};
+ghost use mathlib.Core.Bool.{true, _&&_};
 ghost use mathlib.Core.List.{_++_};
 ghost use Prim.Native.Nat.{_≤_};
+ghost use lib.Dec.{leb};
 ghost use lib.ListN.{length};
 ghost use Rattle.protocol.specs.Connection.{longestMessage};
 ghost use Rattle.protocol.specs.Preauth.{FoldKind, negotiateMessage, setupRequest, setupResponse, admitsLength, admitted, moreProcessing, statusAllows};
@@ -25,9 +26,9 @@ pub fn admits(length: u64) -> bool
     (64 <= length) & (length <= connection::longest_message() as u64)
 }
 
-// The status of a message that is long enough to have one.
+// The status of a message that is long enough to have one; a shorter one asks for nothing.
 pub fn asks_for_more(message: &[u8]) -> bool
-    ensures { λ r. ⌜ (12 ≤ length (now (message .entry)) → r ≡ moreProcessing (now (message .entry))) ⌝ }
+    ensures { λ r. ⌜ r ≡ (leb 12 (length (now (message .entry))) && moreProcessing (now (message .entry))) ⌝ }
 {
     if message.len() < 12 {
         return false;
