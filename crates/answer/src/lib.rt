@@ -2,7 +2,7 @@
 ghost use mathlib.Core.Path.{_≡_};
 ghost use mathlib.Core.Bool.{cond};
 ghost use Rattle.protocol.specs.Answer.{answerNumber, isRefused, carried};
-ghost use Rattle.answer.specs.Reading.{answerOf};
+ghost use Rattle.answer.specs.Reading.{answerOf, marked};
 
 // Done, with the number of inner headers visited or with what else the call has to say; or refused, with the number of RULES 2.
 pub enum Answer {
@@ -45,6 +45,16 @@ pub fn report(a: Answer, place: &mut u64) -> u32
 {
     *place = carried_to(a, *place);
     number(a)
+}
+
+// What the caller's place for a mark holds afterwards: 1 where a done answer carries anything but 0.
+pub fn mark_to(a: Answer, mark: u32) -> u32
+    ensures { λ r. ⌜ r ≡ marked (answerOf a) mark ⌝ }
+{
+    match a {
+        Answer::Done(n) => if n == 0 { 0 } else { 1 },
+        Answer::Refused(_) => mark,
+    }
 }
 
 // A line of the table of numbers: n where it applies, else what the later lines say.

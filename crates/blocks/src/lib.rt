@@ -4,11 +4,11 @@ ghost use Prim.Native.Nat.{_≤_, min};
 ghost use lib.ListN.{length, drop};
 ghost use Rattle.octets.specs.Blocks.{zeroPadded};
 
-// How many bytes the next block takes of x that are left.
-pub fn at_most_16(x: usize) -> usize
-    ensures { λ r. ⌜ r ≡ min x 16 ⌝ }
+// How many bytes of n that are left go where `limit` fit.
+pub fn at_most(n: usize, limit: usize) -> usize
+    ensures { λ r. ⌜ r ≡ min n limit ⌝ }
 {
-    if x < 16 { x } else { 16 }
+    if n < limit { n } else { limit }
 }
 
 // The block of s that begins at `at`, filled with zeros where s ends.
@@ -17,7 +17,7 @@ pub fn block_at(s: &[u8], at: usize) -> [u8; 16]
     ensures { λ r. ⌜ r ≡ zeroPadded 16 (drop at (now (s .entry))) ⌝ }
 {
     let mut r = [0u8; 16];
-    let m = at_most_16(s.len() - at);
+    let m = at_most(s.len() - at, 16);
     let mut j: usize = 0;
     while j < m {
         r[j] = s[at + j];

@@ -2,7 +2,7 @@
 mod cipher;
 mod last;
 
-use blocks::at_most_16;
+use blocks::at_most;
 use last::last_block;
 use runs::copy;
 ghost use mathlib.Core.Path.{_≡_};
@@ -40,7 +40,7 @@ impl Mac {
         requires { ⌜ SubMixTable (now t) ⌝ }
         ensures { λ r. ⌜ ((m : List ℕ) → Holds self (blockCipher keys) m → Holds r (blockCipher keys) (m ++ now (piece .entry))) ⌝ }
     {
-        let n = at_most_16(self.filled as usize);
+        let n = at_most(self.filled as usize, 16);
         let chain = self.chain;
         let mut buffer = self.buffer;
         let room = 16 - n;
@@ -69,7 +69,7 @@ impl Mac {
         requires { ⌜ SubMixTable (now t) ⌝ }
         ensures { λ r. ⌜ ((m : List ℕ) → Holds self (blockCipher keys) m → r ≡ spec.cmac (blockCipher keys) m) ⌝ }
     {
-        let n = at_most_16(self.filled as usize);
+        let n = at_most(self.filled as usize, 16);
         let chain = self.chain;
         let buffer = self.buffer;
         let last = last_block(t, keys, &buffer[..n]);

@@ -18,11 +18,12 @@ use Rattle.protocol.specs.Preauth.{FoldKind, admitted, moreProcessing, statusAl
 use Rattle.protocol.specs.Pieces.{Underway, messageOf, finishedValue}
 use Rattle.protocol.specs.Calls.{foldFinishing, chainAndUnderway, foldTests, tests, effect}
 use Rattle.protocol.specs.Suite.{suite, sha512}
-use Rattle.preauth.proofs.FoldLaws.{refused-40, refused-23, left-out, folded-in, limits}
+use Rattle.answer.specs.Reading.{marked}
+use Rattle.preauth.proofs.FoldLaws.{refused-40, refused-23, left-out, folded-in, mark-carried, limits}
 use Rattle.fold_pieces.specs.declared.FoldState.{FoldState}
 use Rattle.fold_pieces.specs.declared.FoldStep.{FoldStep}
-use Rattle.fold_pieces.specs.State.{StandsFor, ends}
-use Rattle.fold_pieces.specs.Contracts.{FinishedAs, Closes, AnyFinish, Finishes}
+use Rattle.fold_pieces.specs.State.{StandsFor, endedWith, ends}
+use Rattle.fold_pieces.specs.Contracts.{FinishedAs, endLines, endAnswer, Closes, AnyFinish, Finishes}
 use Rattle.fold_pieces.proofs.HeadLaws.{status-kept}
 use Rattle.fold_pieces.proofs.StateLaws.{ends-is}
 
@@ -110,15 +111,27 @@ status-is s u k l fits =
 
 -- ---- what a finish hands back
 
-pub finish-any : (s : FoldState) (allowed : Bool) (v v′ : Bytes) (r : FoldStep) (a : Answer) → Closes s allowed v a v′ → FinishedAs r a
+finished-as : (s : FoldState) (allowed : Bool) (v : Bytes) (r : FoldStep) (a : Answer) → a ≡ endAnswer s allowed v → r ≡ endedWith a → FinishedAs r a
+finished-as s allowed v r a e f =
+    record {
+      number = ap (λ (x : FoldStep). x .number) f;
+      mark =
+          ap (λ (x : FoldStep). x .folded) f
+          ∙ ap (λ (b : Answer). marked b 0) e
+          ∙ mark-carried (endLines s v) allowed 0
+          ∙ sym (ap (λ (b : Answer). carried b 0) e);
+      ended = ap (λ (x : FoldStep). x .state) f;
+    }
+
+pub finish-any : (s : FoldState) (allowed : Bool) (v v′ : Bytes) (r : FoldStep) (a : Answer) → Closes s allowed v a v′ → r ≡ endedWith a
     → AnyFinish s allowed v r v′
 finish-any s allowed v v′ r a c f =
     let e = c .any .answers in
-    record { finished = rw (← e) f; chain = rw (← e) (c .any) }
+    record { finished = rw (← e) (finished-as s allowed v r a e f); chain = rw (← e) (c .any) }
 
 pub finish-stands : (kind : FoldKind) (s : FoldState) (allowed : Bool) (v v′ : Bytes) (r : FoldStep) (a : Answer) (u : Underway)
-    → Closes s allowed v a v′ → FinishedAs r a → StandsFor s u → (admitted (messageOf u) ≡ true → allowed ≡ statusAllows kind (messageOf u))
+    → Closes s allowed v a v′ → r ≡ endedWith a → StandsFor s u → (admitted (messageOf u) ≡ true → allowed ≡ statusAllows kind (messageOf u))
     → Finishes kind u v r v′
 finish-stands kind s allowed v v′ r a u c f k agrees =
     let m = c .stands kind u k agrees in
-    record { finished = rw (← m .answers) f; leaves = m .leaves }
+    record { finished = rw (← m .answers) (finished-as s allowed v r a (c .any .answers) f); leaves = m .leaves }

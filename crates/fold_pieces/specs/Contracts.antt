@@ -3,15 +3,15 @@
 -- Assumes nothing.
 use mathlib.Core.Path.{_≡_}
 use mathlib.Core.Logic.{_≢_}
-use mathlib.Core.Bool.{Bool, true, false, cond, not}
-use mathlib.Core.List.{[], _∷_}
+use mathlib.Core.Bool.{Bool, true, false, cond}
+use mathlib.Core.List.{List, [], _∷_}
 use lib.Dec.{eqb}
 use lib.ListN.{length}
 use Rattle.protocol.specs.Bytes.{Bytes}
-use Rattle.protocol.specs.Answer.{Answer, done, answerNumber, carried, refuse_when_, judge}
+use Rattle.protocol.specs.Answer.{Answer, done, answerNumber, carried, Test, judge}
 use Rattle.protocol.specs.Preauth.{FoldKind, admitted, statusAllows}
 use Rattle.protocol.specs.Pieces.{Underway, notBegun, messageOf}
-use Rattle.protocol.specs.Refusals.{badLength}
+use Rattle.protocol.specs.Refusals.{foldLength, badLength}
 use Rattle.protocol.specs.Calls.{Call, foldBeginning, foldFinishing, onlyUnderway, chainAndUnderway, answer, left}
 use Rattle.protocol.specs.Contract.{Makes}
 use Rattle.protocol.specs.Suite.{suite}
@@ -43,8 +43,11 @@ pub record FinishedAs (r : FoldStep) (a : Answer) : Type 0 where
   pub ended : r .state ≡ noMessage
 
 -- a finish into the value v, with the state s and a status that allows it or not
+abbrev pub endLines : FoldState → Bytes → List Test
+endLines s v = badLength (eqb (length v) 64) ∷ foldLength (ends s) ∷ []
+
 abbrev pub endAnswer : FoldState → Bool → Bytes → Answer
-endAnswer s allowed v = judge (badLength (eqb (length v) 64) ∷ (refuse 23 when not (ends s)) ∷ []) (done (cond allowed 1 0))
+endAnswer s allowed v = judge (endLines s v) (done (cond allowed 1 0))
 
 pub record AnyEnd (s : FoldState) (allowed : Bool) (v : Bytes) (a : Answer) (v′ : Bytes) : Type 0 where
   pub answers : a ≡ endAnswer s allowed v

@@ -7,9 +7,11 @@ use Prim.Native.Nat.{ℕ, _+_}
 use lib.Dec.{leb}
 use lib.ListN.{length, take, replicate}
 use Rattle.sha512.specs.Code.{Holds, nothingTaken}
+use Rattle.protocol.specs.Answer.{Answer, answerNumber}
 use Rattle.protocol.specs.Connection.{longestMessage}
 use Rattle.protocol.specs.Preauth.{admitsLength}
 use Rattle.protocol.specs.Pieces.{Underway}
+use Rattle.answer.specs.Reading.{marked}
 use Rattle.connection.specs.Reading.{flag}
 use Rattle.fold_pieces.specs.declared.FoldState.{FoldState}
 use Rattle.fold_pieces.specs.declared.FoldStep.{FoldStep}
@@ -32,6 +34,10 @@ noMessage = record { hash = nothingTaken; joined = 0; head = replicate 12 0; und
 -- what a begin and a piece hand back, which fold nothing
 abbrev pub stepWith : FoldState → ℕ → FoldStep
 stepWith s n = record { state = s; number = n; folded = 0 }
+
+-- and what a finish does that answers a: the state with no message, whatever it answers
+abbrev pub endedWith : Answer → FoldStep
+endedWith a = record { state = noMessage; number = answerNumber a; folded = marked a 0 }
 
 -- what any bytes answer with: whether a piece of n bytes is taken, and whether a finish is not 23
 abbrev pub takes : FoldState → ℕ → Bool

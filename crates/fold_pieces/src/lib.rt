@@ -1,18 +1,19 @@
 // A message folded as it arrives (RULES 8): the running hash is handed on from piece to piece.
-use preauth::FoldAnswer;
+use answer::Answer;
+use blocks::at_most;
 use runs::copy;
 use sha512::Sha512;
 ghost use mathlib.Core.Path.{_≡_};
 ghost use mathlib.Core.Bool.{true};
 ghost use mathlib.Core.List.{List, _++_};
-ghost use Prim.Native.Nat.{ℕ, _+_, min};
+ghost use Prim.Native.Nat.{ℕ, _+_};
 ghost use lib.ListN.{length, take};
 ghost use Rattle.protocol.specs.Preauth.{negotiateMessage, setupRequest, setupResponse, moreProcessing};
 ghost use Rattle.protocol.specs.Pieces.{Underway};
 ghost use Rattle.protocol.specs.Calls.{foldPiece};
-ghost use Rattle.preauth.specs.Reading.{foldAnswerOf};
-ghost use Rattle.fold_pieces.specs.State.{StandsFor, noMessage, stepWith};
-ghost use Rattle.fold_pieces.specs.Contracts.{HandsOn, Begins, AnyPiece, FinishedAs, Closes, AnyFinish, Finishes};
+ghost use Rattle.answer.specs.Reading.{answerOf};
+ghost use Rattle.fold_pieces.specs.State.{StandsFor, noMessage, stepWith, endedWith};
+ghost use Rattle.fold_pieces.specs.Contracts.{HandsOn, Begins, AnyPiece, Closes, AnyFinish, Finishes};
 
 // struct smb3seal_fold_state: the hash of the value begun from and of the bytes joined so far, how many these are, and the first twelve of
 // them, which end with the status. Any bytes are a state; no message is under way where `underway` is 0.
@@ -74,12 +75,6 @@ pub fn begin(chain: &[u8]) -> FoldStep
     step(state, 0)
 }
 
-fn at_most(n: usize, limit: usize) -> usize
-    ensures { λ r. ⌜ r ≡ min n limit ⌝ }
-{
-    if n < limit { n } else { limit }
-}
-
 // The first twelve bytes of what is joined, with the piece behind it.
 fn head_with(head: [u8; 12], joined: u64, piece: &[u8]) -> [u8; 12]
     ensures { λ r. ⌜ ((m : List ℕ) → joined ≡ length m → take joined head ≡ take 12 m
@@ -116,22 +111,22 @@ impl FoldState {
     }
 
     // One fold of what is joined, if its status allows it. The status of a message that 23 refuses counts for nothing.
-    fn close(self, chain: &mut [u8], allowed: bool) -> FoldAnswer
-        ensures { λ r. ⌜ Closes self allowed (now (chain .entry)) (foldAnswerOf r) (now (chain .exit)) ⌝ }
+    fn close(self, chain: &mut [u8], allowed: bool) -> Answer
+        ensures { λ r. ⌜ Closes self allowed (now (chain .entry)) (answerOf r) (now (chain .exit)) ⌝ }
     {
         if chain.len() != 64 {
-            return FoldAnswer::Refused(40);
+            return Answer::Refused(40);
         }
         if !((self.underway != 0) & preauth::admits(self.joined)) {
-            return FoldAnswer::Refused(23);
+            return Answer::Refused(23);
         }
         if !allowed {
-            return FoldAnswer::NotFolded;
+            return Answer::Done(0);
         }
         let hash = self.hash;
         let value = hash.finish();
         copy(chain, 0, &value);
-        FoldAnswer::Folded
+        Answer::Done(1)
     }
 
     // A negotiate message or a session setup request: always folded.
@@ -155,12 +150,12 @@ impl FoldState {
 }
 
 // What a finish hands back: the state with no message, whatever it answers.
-fn finished(a: FoldAnswer) -> FoldStep
-    ensures { λ r. ⌜ FinishedAs r (foldAnswerOf a) ⌝ }
+fn finished(a: Answer) -> FoldStep
+    ensures { λ r. ⌜ r ≡ endedWith (answerOf a) ⌝ }
 {
     FoldStep {
         state: ended(),
-        number: preauth::number(a),
-        folded: preauth::folded_to(a, 0),
+        number: answer::number(a),
+        folded: answer::mark_to(a, 0),
     }
 }

@@ -69,7 +69,7 @@ pub fn update(k: HashKey, y: Running, s: &[u8]) -> Running
     let mut at: usize = 0;
     while at < s.len() {
         z = step(&t, z, load::block(s, at));
-        at += blocks::at_most_16(s.len() - at);
+        at += blocks::at_most(s.len() - at, 16);
     }
     Running { y: z }
 }

@@ -53,7 +53,7 @@ fn negotiate(from: Lab, message: &[u8]) -> Stepped
     let table = from.table;
     let answer = preauth::fold(&mut chain, message);
     Stepped {
-        number: preauth::number(answer),
+        number: answer::number(answer),
         lab: Lab {
             dialect: from.dialect,
             cipher: from.cipher,
@@ -82,13 +82,13 @@ fn setup(from: Lab, from_server: bool, message: &[u8]) -> Stepped
     if from_server {
         let answer = preauth::fold_response(&mut chain, message);
         return Stepped {
-            number: preauth::number(answer),
+            number: answer::number(answer),
             lab: chained(from, chain),
         };
     }
     let answer = preauth::fold(&mut chain, message);
     Stepped {
-        number: preauth::number(answer),
+        number: answer::number(answer),
         lab: chained(from, chain),
     }
 }

@@ -10,7 +10,7 @@ use lib.Dec.{leb}
 use lib.ListN.{length}
 use Rattle.octets.proofs.BoolLaws.{and-true}
 use Rattle.protocol.specs.Bytes.{Bytes}
-use Rattle.protocol.specs.Answer.{done, refused, Test, firstOf}
+use Rattle.protocol.specs.Answer.{done, refused, carried, Test, refuse_when_, firstOf, judge}
 use Rattle.protocol.specs.Connection.{longestMessage}
 use Rattle.protocol.specs.Preauth.{FoldKind, admitted, statusAllows, foldMark}
 use Rattle.protocol.specs.Refusals.{foldLength}
@@ -18,11 +18,12 @@ use Rattle.protocol.specs.Calls.{Call, folding, Lent, onlyChain, chainTests, fo
 use Rattle.protocol.specs.Contract.{Makes}
 use Rattle.protocol.specs.Suite.{suite, sha512}
 use Rattle.protocol.proofs.CallLaws.{lines-refused, lines-done, makes-refused, makes-done}
+use Rattle.answer.specs.Reading.{marked}
 
 -- a call that folds the message m into the chain value that it is lent
 module _ (call : Call) (w : Lent) (kind : FoldKind) (m : Bytes) (alone : tests suite call w ≡ foldTests kind (w .chain) m) where
   abbrev lines : List Test
-  lines = chainTests (w .chain) ++ (foldLength m ∷ [])
+  lines = chainTests (w .chain) ++ (foldLength (admitted m) ∷ [])
 
   -- what is answered, once the lines have been tested
   answered : (n : ℕ) → n ≡ firstOf lines → (n ≡ 0 → ⊥) → refused n ≡ answer suite call w
@@ -50,11 +51,22 @@ module _ (call : Call) (w : Lent) (kind : FoldKind) (m : Bytes) (alone : tests s
           let says : done 1 ≡ answer suite call w = ap (λ (x : Bool). done (cond x 1 0)) (sym b) ∙ passed in
           makes-done call w (done 1) says refl after e
 
+-- what a fold carries is a mark already
+pub mark-carried : (ts : List Test) (b : Bool) (h : ℕ) → marked (judge ts (done (cond b 1 0))) h ≡ carried (judge ts (done (cond b 1 0))) h
+mark-carried [] true h = refl
+mark-carried [] false h = refl
+mark-carried ((refuse n when true) ∷ ts) b h = refl
+mark-carried ((refuse n when false) ∷ ts) b h = mark-carried ts b h
+
 -- a fold of the whole message
 module _ (kind : FoldKind) (v m : Bytes) where
   pub fold-tests : tests suite (folding kind m) (onlyChain v) ≡ foldTests kind v m
   unfolding tests
   fold-tests = refl
+
+  pub fold-mark : (h : ℕ) → marked (answer suite (folding kind m) (onlyChain v)) h ≡ carried (answer suite (folding kind m) (onlyChain v)) h
+  unfolding tests
+  fold-mark h = mark-carried (chainTests v ++ (foldLength (admitted m) ∷ [])) (statusAllows kind m) h
 
   pub fold-leaves : statusAllows kind m ≡ false → onlyChain v ≡ effect suite (folding kind m) (onlyChain v)
   unfolding effect

@@ -1,28 +1,28 @@
 -- Every call as one value: what it is given, what it tests, what it changes. Its answer and what it leaves are then said once, for all calls.
 -- RULES 2, 5, 10 and 15.
 -- Assumes nothing.
-use mathlib.Core.Bool.{Bool, _&&_}
+use mathlib.Core.Bool.{Bool, not, _&&_}
 use mathlib.Core.List.{List, [], _∷_, _++_}
 use mathlib.Core.Option.{Option, Option·getD}
 use Prim.Native.Nat.{ℕ, _+_}
-use lib.Dec.{eqb}
+use lib.Dec.{ltb, eqb}
 use lib.ListN.{length}
 use Rattle.protocol.specs.Bytes.{Bytes}
 use Rattle.protocol.specs.Answer.{Answer, done, whenDone, Test, judge, judgeAfter}
-use Rattle.protocol.specs.Connection.{Role, other, isServer, Connection, cipherUsed, isWide, usesWide, cipherKeyBytes, placeBytes}
+use Rattle.protocol.specs.Connection.{Role, other, isServer, Connection, cipherUsed, isWide, usesWide, cipherKeyBytes, placeBytes, longestMessage}
 use Rattle.protocol.specs.TransformHeader.{inner, sessionIdOf, TransformHeader, headerOf}
 use Rattle.protocol.specs.InnerHeader.{Envelope}
 use Rattle.protocol.specs.Compound.{walk}
 use Rattle.protocol.specs.Keys.{derivedKeys, keysInOrder}
-use Rattle.protocol.specs.Preauth.{FoldKind, folded, foldMark}
-use Rattle.protocol.specs.Pieces.{Underway, begunFrom, notBegun, messageOf, withPiece, finishedValue}
+use Rattle.protocol.specs.Preauth.{FoldKind, admitted, folded, foldMark}
+use Rattle.protocol.specs.Pieces.{Underway, begunFrom, notBegun, pieceFits, messageOf, withPiece, finishedValue}
 use Rattle.protocol.specs.Signing.{signatureUnder, signedUnder}
 use Rattle.protocol.specs.SigningPieces.{signatureOf}
 use Rattle.protocol.specs.SessionTable.{Session, sealingKey, openingKey, recordOf, changeRecord, removeRecord, hasFree, fillFree, Adding, newRecord}
 use Rattle.protocol.specs.SessionTable.{countUp, counterStep}
 use Rattle.protocol.specs.Refusals.{notEncrypting, tooShort, tooLong, notTransform, badFlags, dirtyNonce, otherSession, constrained, guest, otherKeySize}
-use Rattle.protocol.specs.Refusals.{badTag, badSize, counterUsedUp, unknownDialect, badKeyMaterial, idZero, idTaken, tableFull, foldLength, pieceLength, badLength}
-use Rattle.protocol.specs.Refusals.{pieceTooLong, innerTooShort, notHeader, notSigned, badSignature}
+use Rattle.protocol.specs.Refusals.{badTag, badSize, counterUsedUp, unknownDialect, badKeyMaterial, idZero, idTaken, tableFull, foldLength, badLength}
+use Rattle.protocol.specs.Refusals.{innerTooShort, notHeader, notSigned, badSignature}
 use Rattle.protocol.specs.Transform.{Primitives, sealedUnder, plaintextUnder, openedTo}
 
 -- ---- the calls, each with all that it only reads
@@ -166,11 +166,15 @@ chainTests v = badLength (eqb (length v) 64) ∷ []
 
 -- 40, 23: every fold of the message m into the value v; "23 is tested before the status"
 abbrev pub foldTests : FoldKind → Bytes → Bytes → Tests
-foldTests kind v m = record { before = chainTests v ++ (foldLength m ∷ []); walked = carries (foldMark kind m); later = [] }
+foldTests kind v m = record { before = chainTests v ++ (foldLength (admitted m) ∷ []); walked = carries (foldMark kind m); later = [] }
+
+-- more than 8,454,144 bytes
+abbrev pub passesLimit : Bytes → Bool
+passesLimit p = ltb longestMessage (length p)
 
 -- 1 to 3: every sealing and opening of the buffer m
 abbrev pub messageTests : Connection → Bytes → List Test
-messageTests c m = notEncrypting c ∷ tooShort m ∷ tooLong (inner m) ∷ []
+messageTests c m = notEncrypting c ∷ tooShort m ∷ tooLong (passesLimit (inner m)) ∷ []
 
 -- 4, 5 and 29, "tested after 5 and before 6": every opening, on the header
 abbrev pub headerTests : Connection → TransformHeader → List Test
@@ -178,7 +182,7 @@ headerTests c h = notTransform h ∷ badFlags h ∷ dirtyNonce c h ∷ []
 
 -- "Both .. test 3 (over the message's length), 11, 12", and 40 before them
 abbrev pub signTests : Bytes → Bytes → List Test
-signTests key m = signingKeyTests key ++ (tooLong m ∷ innerTooShort m ∷ notHeader m 0 ∷ [])
+signTests key m = signingKeyTests key ++ (tooLong (passesLimit m) ∷ innerTooShort m ∷ notHeader m 0 ∷ [])
 
 -- "Verifying .. then tests in this order: 24 .., 25", where right is the signature that the message should have
 abbrev pub verifyTests : Bytes → Bytes → Bytes → List Test
@@ -246,7 +250,7 @@ module _ (P : Primitives) where
   tests (derivation dialect cipher chain material) w = lines (derivationTests dialect cipher chain material (w .keys))
   tests (folding kind m) w = foldTests kind (w .chain) m
   tests (foldBeginning v) w = lines (chainTests v)
-  tests (foldPiece p) w = lines (pieceLength (w .underway) p ∷ [])
+  tests (foldPiece p) w = lines (foldLength (pieceFits (w .underway) p) ∷ [])
   -- "finishing under 64 bytes is 23 too"
   tests (foldFinishing kind) w = foldTests kind (w .chain) (messageOf (w .underway))
   -- "Under one given key, 7 and 8 do not arise", and "sealing has no 6"
@@ -267,7 +271,7 @@ module _ (P : Primitives) where
   tests (signingUnder key) w = lines (signTests key (w .message))
   tests (verifyingUnder key) w = lines (verifyTests key (w .message) (signatureUnder (P .cmac) key (w .message)))
   tests (signBeginning key) w = lines (signingKeyTests key)
-  tests (signPiece p) w = lines (pieceTooLong (w .underway) p ∷ [])
+  tests (signPiece p) w = lines (tooLong (not (pieceFits (w .underway) p)) ∷ [])
   tests (signFinishing u) w = lines (signFinishTests u (w .signature))
   tests (verifyFinishing u) w = lines (verifyFinishTests u (signatureUnder (P .cmac) (u .start) (u .joined)))
   tests (adding a) w = lines (addTests a ((recordOf (a .id) (w .table)) .used) (hasFree (w .table)))

@@ -10,11 +10,9 @@ use Rattle.octets.specs.Maybe.{isSome}
 use Rattle.octets.specs.Same.{sameBytes}
 use Rattle.protocol.specs.Bytes.{Bytes}
 use Rattle.protocol.specs.Answer.{Test, refuse_when_}
-use Rattle.protocol.specs.Connection.{Connection, knownDialect, encrypts, usesGcm, usesWide, cipherKeyBytes, longestMessage, longestMaterial, lastCounter}
+use Rattle.protocol.specs.Connection.{Connection, knownDialect, encrypts, usesGcm, usesWide, cipherKeyBytes, longestMaterial, lastCounter}
 use Rattle.protocol.specs.TransformHeader.{TransformHeader}
 use Rattle.protocol.specs.InnerHeader.{isInnerHeader, isRelated, Envelope, belongs}
-use Rattle.protocol.specs.Preauth.{admitted}
-use Rattle.protocol.specs.Pieces.{Underway, pieceFits}
 use Rattle.protocol.specs.Signing.{isSigned, signatureField}
 use Rattle.protocol.specs.SessionTable.{Session}
 
@@ -26,13 +24,10 @@ notEncrypting c = refuse 1 when not (encrypts c)
 abbrev pub tooShort : Bytes → Test
 tooShort m = refuse 2 when leb (length m) 52
 
--- "more than 8,454,144 bytes after the transform header", which are p; signing and verifying: "over the message's length", all of it
-abbrev pub tooLong : Bytes → Test
-tooLong p = refuse 3 when ltb longestMessage (length p)
-
--- "A piece that would pass the length limit is" 3 where it is signed or verified
-abbrev pub pieceTooLong : Underway → Bytes → Test
-pieceTooLong u p = refuse 3 when not (pieceFits u p)
+-- "more than 8,454,144 bytes after the transform header"; signing and verifying: "over the message's length", all of it; "A piece that would
+-- pass the length limit is" 3 where it is signed or verified: whether the limit is passed
+abbrev pub tooLong : Bool → Test
+tooLong passed = refuse 3 when passed
 
 -- "first four bytes not FD 53 4D 42"
 abbrev pub notTransform : TransformHeader → Test
@@ -119,13 +114,9 @@ idTaken taken = refuse 21 when taken
 abbrev pub tableFull : Bool → Test
 tableFull room = refuse 22 when not room
 
--- "folding: message under 64 or over 8,454,144 bytes"
-abbrev pub foldLength : Bytes → Test
-foldLength m = refuse 23 when not (admitted m)
-
--- "A piece that would pass the length limit is 23"
-abbrev pub pieceLength : Underway → Bytes → Test
-pieceLength u p = refuse 23 when not (pieceFits u p)
+-- "folding: message under 64 or over 8,454,144 bytes"; "A piece that would pass the length limit is 23": whether the length is one to fold
+abbrev pub foldLength : Bool → Test
+foldLength fits = refuse 23 when not fits
 
 -- "the signed flag is missing"
 abbrev pub notSigned : Bytes → Test

@@ -18,7 +18,7 @@ use Rattle.protocol.specs.Bytes.{Bytes}
 use Rattle.protocol.specs.Answer.{Answer, done, refused, answerNumber, whenDone, Test, firstOf}
 use Rattle.protocol.specs.Connection.{longestMessage}
 use Rattle.protocol.specs.InnerHeader.{isInnerHeader}
-use Rattle.protocol.specs.Refusals.{pieceTooLong, notSigned, badSignature}
+use Rattle.protocol.specs.Refusals.{tooLong, notSigned, badSignature}
 use Rattle.protocol.specs.Signing.{isSigned, withSignedFlag, signatureUnder}
 use Rattle.protocol.specs.Pieces.{Underway, begunFrom, notBegun, pieceFits, withPiece}
 use Rattle.protocol.specs.SigningPieces.{signatureOf}
@@ -119,7 +119,7 @@ module _ (s : SignState) (u : Underway) (h : StandsFor s u) where
 
     piece-number : (b : Bool) → takes s (length p) ≡ b → answerNumber (answer suite (signPiece p) (onlyUnderway u)) ≡ cond (not b) 3 0
     unfolding tests
-    piece-number b e = number-lines (pieceTooLong u p ∷ []) 0 ∙ ap (λ (x : Bool). cond (not x) 3 0) (sym takes-is ∙ e)
+    piece-number b e = number-lines (tooLong (not (pieceFits u p)) ∷ []) 0 ∙ ap (λ (x : Bool). cond (not x) 3 0) (sym takes-is ∙ e)
 
     pub handed-back : takes s (length p) ≡ false → HandsOn (signPiece p) u (stepWith s 3)
     handed-back e = record { number = sym (piece-number false e); stands = rw (piece-left false e) h }

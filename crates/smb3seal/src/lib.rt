@@ -31,7 +31,7 @@ pub extern "C" fn smb3seal_fold(chain: &mut [u8], message: &[u8]) -> u32
     ensures { λ r. ⌜ Returns (folding negotiateMessage (now (message .entry))) (onlyChain (now (chain .entry))) r (onlyChain (now (chain .exit)))
         × Returns (folding setupRequest (now (message .entry))) (onlyChain (now (chain .entry))) r (onlyChain (now (chain .exit))) ⌝ }
 {
-    preauth::number(preauth::fold(chain, message))
+    answer::number(preauth::fold(chain, message))
 }
 
 // Folds a session setup response, if its status asks for that.
@@ -40,8 +40,8 @@ pub extern "C" fn smb3seal_fold_response(chain: &mut [u8], message: &[u8], folde
     ensures { λ r. ⌜ Reports (folding setupResponse (now (message .entry))) (onlyChain (now (chain .entry))) r (onlyChain (now (chain .exit))) (now (folded .entry)) (now (folded .exit)) ⌝ }
 {
     let answer = preauth::fold_response(chain, message);
-    *folded = preauth::folded_to(answer, *folded);
-    preauth::number(answer)
+    *folded = answer::mark_to(answer, *folded);
+    answer::number(answer)
 }
 
 // Seals the message in place.

@@ -31,7 +31,7 @@ loop-again c =
     let k = t .before in
     let a = k .before .before .before .before .args in
     let s = now (a .s) in
-    let m = c .at-most-16 in (
+    let m = c .at-most in (
       (λ h p.
           over-turn (step h) (elementOf (a .y .y)) s (k .loop .at) (m .result) (elementOf (k .loop .z)) _ (k .loop .inv .1) (t .loop-test .taken) (m .ensures)
           (k .loop .inv .0 h p)

@@ -26,12 +26,12 @@ last-block-requires : tie.Need-last-block-requires
 last-block-requires c κs =
     let st = c .before .before .before .before in
     let r = room st in
-    (st .pre, omega (arith, length-take-le (c .before .before .before .at-most-16 .result) (st .args .self .buffer) (omega arith)))
+    (st .pre, omega (arith, length-take-le (c .before .before .before .at-most .result) (st .args .self .buffer) (omega arith)))
 
 returns : tie.Need-returns
 returns c =
     let st = c .before .before .before .before .before .before .before in
-    let n = c .before .before .before .before .before .before .at-most-16 in
+    let n = c .before .before .before .before .before .before .at-most in
     let last = c .before .before .last-block in
     let E = blockCipher (st .args .keys) in
     λ m s.

@@ -21,7 +21,7 @@ copy-requires c κs = let r = room (c .before .before .before .before .before .b
 returns : tie.Need-returns
 returns c =
     let st = c .before .before .before .before .before .before .before .before in
-    let n = c .before .before .before .before .before .before .at-most-16 in
+    let n = c .before .before .before .before .before .before .at-most in
     let a = st .args in
     λ m s.
     running-within (blockCipher (a .keys)) (recounted (blockCipher (a .keys)) (n .result) (n .ensures) s) (room st) (now (a .piece)) (omega arith) _
@@ -36,7 +36,7 @@ copy-requires-2 : tie.Need-copy-requires-2
 copy-requires-2 c κs =
     let st = c .before .before .before .before .before .before .before in
     let r = room st in
-    let n = c .before .before .before .before .before .at-most-16 .result in
+    let n = c .before .before .before .before .before .at-most .result in
     let l = length-take-le (16 - n) (now (st .args .piece)) (omega arith) in
     omega arith
 
@@ -48,7 +48,7 @@ returns-2 c =
     let rest = c .before .before .before .before in
     let first = rest .before .before .before in
     let full = first .before .before .before in
-    let n = full .before .before .before .before .before .before .at-most-16 in
+    let n = full .before .before .before .before .before .before .at-most in
     let st = full .before .before .before .before .before .before .before .before in
     let a = st .args in
     λ m s.

@@ -1,10 +1,12 @@
 -- Right because the first twelve bytes of a message that 23 admits are those that are kept, and they end with the status.
 -- Assumes nothing.
-use mathlib.Core.Path.{_≡_, sym, _∙_}
+use mathlib.Core.Path.{_≡_, sym, ap, _∙_}
+use mathlib.Core.Bool.{Bool, _&&_}
 use native.Mathlib.Omega.{arith}
+use borrow.Author.Tests.{le-leb}
 use denote.Ref.{now}
 use lib.ListN.{length, length-map}
-use Rattle.protocol.specs.Preauth.{setupResponse}
+use Rattle.protocol.specs.Preauth.{setupResponse, moreProcessing}
 use Rattle.fold_pieces.proofs.FinishLaws.{finish-any, finish-stands, status-is}
 use borrow.Author.Needs.{needs}
 use Rattle.fold_pieces.proofs.FoldState.finish_response.Statement.{statement}
@@ -20,7 +22,8 @@ returns c =
     let start = asked .before .before .before .before in
     let s = start .args .self in
     let v = now (start .args .chain) in
-    let allowed = asked .asks-for-more .ensures (omega (arith, room start)) in
+    let twelve = le-leb 12 (length (s .head)) (omega (arith, room start)) in
+    let allowed = asked .asks-for-more .ensures ∙ ap (λ (b : Bool). b && moreProcessing (s .head)) twelve in
     let k = rw allowed at (closed .close .ensures) in
     let f = c .finished .ensures in
     (finish-any s _ v _ _ _ k f, λ u h. finish-stands setupResponse s _ v _ _ _ u k f h (status-is s u h (room start)))
