@@ -3,7 +3,7 @@
 use mathlib.Core.Path.{_≡_, refl}
 use mathlib.Core.List.{[], _∷_}
 use Rattle.octets.specs.Numbers.{bigEndianAfter}
-use Rattle.trace.specs.Format.{goodFileHead, readFileHeadBy, goodHead, readable, readAt}
+use Rattle.trace_format.specs.Format.{goodFileHead, readFileHeadBy, goodHead, readable, readAt}
 use Rattle.lab.specs.Replay.{linesFrom, linesOf, stop}
 
 -- "a good file head followed by two stray bytes prints just "stop 4""

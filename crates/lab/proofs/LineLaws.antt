@@ -6,8 +6,8 @@ use Prim.Native.Nat.{ℕ, zero, suc, _+_, _<_, _≤_}
 use native.Mathlib.Omega.{arith}
 use lib.ListN.{length}
 use Rattle.protocol.specs.Bytes.{Bytes}
-use Rattle.trace.specs.Format.{Edition, Reading, found, end, unreadable, readAt}
-use Rattle.trace.proofs.FormatLaws.{at-end, was}
+use Rattle.trace_format.specs.Format.{Edition, Reading, found, end, unreadable, readAt}
+use Rattle.trace_format.proofs.FormatLaws.{at-end, was}
 use Rattle.lab.specs.Steps.{State}
 use Rattle.lab.specs.Replay.{Line, outcome, stateAfter, placeAfter, lineThen, linesFrom}
 

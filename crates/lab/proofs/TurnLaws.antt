@@ -12,12 +12,12 @@ use types.Run.{OneOf, miss}
 use denote.Enum.Declared.{tagOf}
 use Rattle.octets.specs.Numbers.{bytesAt}
 use Rattle.protocol.specs.Bytes.{Bytes}
-use Rattle.trace.specs.Format.{Edition, Reading, found, end, unreadable, readAt}
-use Rattle.trace.specs.Answers.{readingOf}
-use Rattle.trace.specs.declared.reader.Read.{Read}
-use Rattle.trace.specs.declared.reader.Read.the-variants as at
-use Rattle.trace.proofs.reader.Read.{the-type}
-use Rattle.trace.proofs.FormatLaws.{Was, not-end, admitted-24}
+use Rattle.trace_format.specs.Format.{Edition, Reading, found, end, unreadable, readAt}
+use Rattle.trace_reader.specs.Answers.{readingOf}
+use Rattle.trace_reader.specs.declared.Read.{Read}
+use Rattle.trace_reader.specs.declared.Read.the-variants as at
+use Rattle.trace_reader.proofs.Read.{the-type}
+use Rattle.trace_format.proofs.FormatLaws.{Was, not-end, admitted-24}
 use Rattle.lab.specs.Steps.{State, Steps, stepNumber, stepState, stepPayload}
 use Rattle.lab.specs.Replay.{held, answered, long, outcome, stateAfter, fileAfter, placeAfter}
 use Rattle.lab.specs.Reading.{Turns, stateOf}

@@ -4,7 +4,7 @@ use mathlib.Core.Path.{_≡_}
 use Prim.Native.Nat.{ℕ}
 use Rattle.protocol.specs.Bytes.{Bytes}
 use Rattle.session_table.specs.Reading.{tableOf}
-use Rattle.trace.specs.Format.{Reading}
+use Rattle.trace_format.specs.Format.{Reading}
 use Rattle.lab.specs.Steps.{State}
 use Rattle.lab.specs.Replay.{Outcome, answered, long, stopped, ended, outcome, stateAfter, fileAfter, placeAfter}
 use Rattle.lab.specs.declared.kinds.Lab.{Lab}

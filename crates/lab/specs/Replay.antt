@@ -7,7 +7,7 @@ use lib.Dec.{ltb}
 use lib.ListN.{length, take, drop}
 use Rattle.octets.specs.Numbers.{bytesAt}
 use Rattle.protocol.specs.Bytes.{Bytes}
-use Rattle.trace.specs.Format.{Edition, editionOf, FileReading, fileHead, badFileHead, readFileHead, Reading, found, end, unreadable, readAt}
+use Rattle.trace_format.specs.Format.{Edition, editionOf, FileReading, fileHead, badFileHead, readFileHead, Reading, found, end, unreadable, readAt}
 use Rattle.lab.specs.Steps.{State, freshState, stepNumber, stepState, stepPayload}
 
 -- "The replay program holds 65,536 bytes"

@@ -1,8 +1,8 @@
 // A record at a place of a lent file: what it does, and which line comes out.
 use crate::kinds::Lab;
 use crate::kinds::step;
-use trace::Read;
-ghost use Rattle.trace.specs.Format.{editionOf, readAt};
+use trace_reader::Read;
+ghost use Rattle.trace_format.specs.Format.{editionOf, readAt};
 ghost use Rattle.lab.specs.Reading.{Turns, stateOf};
 
 // The payload that the replay holds; a longer one gets "long" for its number.
@@ -41,7 +41,7 @@ pub fn replay_at(edition: u8, lab: Lab, file: &mut [u8], at: usize) -> Turn
         start,
         len,
         next,
-    } = trace::read_record(edition, file, at)
+    } = trace_reader::read_record(edition, file, at)
     else {
         return Turn {
             line: Line::Stop(at),

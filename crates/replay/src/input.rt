@@ -1,5 +1,5 @@
 // What is read of the file. Nothing is promised of a file; what is read is held to the window.
-use trace::Head;
+use trace_reader::Head;
 ghost use mathlib.Core.Path.{_≡_};
 ghost use Prim.Native.Nat.{_≤_};
 ghost use lib.ListN.{take};
@@ -61,7 +61,7 @@ pub fn payload_len(edition: u8, window: &[u8], n: usize) -> usize {
         kind: _,
         from_server: _,
         len,
-    } = trace::read_head(edition, front(window, n))
+    } = trace_reader::read_head(edition, front(window, n))
     else {
         return 0;
     };

@@ -6,7 +6,7 @@ mod output;
 use lab::Lab;
 use lab::Line;
 use lab::Turn;
-use trace::FileHead;
+use trace_reader::FileHead;
 
 // A payload that is not held: its bytes are passed over.
 fn passed_over(fd: i32, lab: Lab, window: &mut [u8], len: usize) -> Turn {
@@ -76,7 +76,7 @@ fn replay(fd: i32) {
         edition,
         dialect,
         cipher,
-    } = trace::read_file_head(input::front(&window, n))
+    } = trace_reader::read_file_head(input::front(&window, n))
     else {
         output::stop(0);
         return;

@@ -5,8 +5,8 @@ use mathlib.Core.Bool.{true, false}
 use mathlib.Core.List.{List, [], _∷_, _++_}
 use Prim.Native.Nat.{ℕ, _+_, _*_, _/_, _<_, _≤_}
 use lib.ListN.{length, drop}
-use Rattle.trace.specs.Format.{Bytes, Edition, editionOf, headIn, editionIn, goodFileHead, readFileHead, readable}
-use Rattle.trace.specs.Records.{Record, recordIn, readAll}
+use Rattle.trace_format.specs.Format.{Bytes, Edition, editionOf, headIn, editionIn, goodFileHead, readFileHead, readable}
+use Rattle.trace_format.specs.Records.{Record, recordIn, readAll}
 use Rattle.trace_rescue.specs.Rescue.{isFound, passed, Piece, kept, dropped, pieceLength, pieces, keptBytes, gapCount, rescuedFile, gapsOf, roomy}
 
 -- the bytes of the pieces, one after the other

@@ -5,9 +5,10 @@ use mathlib.Core.Bool.{Bool}
 use mathlib.Core.List.{List}
 use Prim.Native.Nat.{ℕ}
 use lib.ListN.{length}
-use Rattle.trace.specs.Format.{Bytes, FileReading, Reading, readingNumber}
-use Rattle.trace.specs.Answers.{writeAnswer, roomAfter, writtenNumber, placeBehind, fileNumber, dialectTo, cipherTo}
-use Rattle.trace.specs.Answers.{kindTo, fromServerTo, payloadTo, lengthTo, nextTo}
+use Rattle.trace_format.specs.Format.{Bytes, FileReading, Reading}
+use Rattle.trace_writer.specs.Answers.{writeAnswer, roomAfter}
+use Rattle.trace_places.specs.Places.{writtenNumber, placeBehind, fileNumber, dialectTo, cipherTo}
+use Rattle.trace_places.specs.Places.{readingNumber, kindTo, fromServerTo, payloadTo, lengthTo, nextTo}
 use Rattle.trace_rescue.specs.Rescue.{roomy, rescuedFile, gapsOf, rescueAnswer, rescueNumber, writtenTo, gapsTo}
 use Rattle.trace_rescue.specs.Answers.{placeAfter}
 

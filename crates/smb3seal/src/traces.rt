@@ -1,7 +1,7 @@
 // Lab traces: what a program that owns the socket records, and how it reads that.
-ghost use Rattle.trace.specs.Format.{readFileHead, readIn, editionOf};
-ghost use Rattle.trace.specs.Records.{fileHeadBytes, headWritable, recordBytes, writable, writtenEdition};
-ghost use Rattle.trace.specs.Answers.{recordWith};
+ghost use Rattle.trace_format.specs.Format.{readFileHead, readIn, editionOf};
+ghost use Rattle.trace_format.specs.Records.{fileHeadBytes, headWritable, recordBytes, writable, writtenEdition};
+ghost use Rattle.trace_writer.specs.Answers.{recordWith};
 ghost use Rattle.connection.specs.Reading.{flag};
 ghost use Rattle.smb3seal.specs.Traces.{WritesTrace, ReadsHead, ReadsRecord, RescuesTrace};
 
@@ -16,9 +16,9 @@ pub extern "C" fn smb3seal_trace_head(
 ) -> u32
     ensures { λ r. ⌜ WritesTrace (headWritable edition cipher) (fileHeadBytes edition dialect cipher) (now (trace .entry)) 0 r (now (trace .exit)) (now (at .entry)) (now (at .exit)) ⌝ }
 {
-    let written = trace::write_file_head(edition, dialect, cipher, trace);
-    *at = trace::place_to(written, *at);
-    trace::written_number(written)
+    let written = trace_writer::write_file_head(edition, dialect, cipher, trace);
+    *at = trace_places::place_to(written, *at);
+    trace_places::written_number(written)
 }
 
 // Writes a record at a place of the room.
@@ -32,9 +32,9 @@ pub extern "C" fn smb3seal_trace_record(
 ) -> u32
     ensures { λ r. ⌜ WritesTrace (writable (editionOf writtenEdition) (recordWith kind (flag «from_server») (now (payload .entry)))) (recordBytes (editionOf writtenEdition) (recordWith kind (flag «from_server») (now (payload .entry)))) (now (trace .entry)) (now (at .entry)) r (now (trace .exit)) (now (at .entry)) (now (at .exit)) ⌝ }
 {
-    let written = trace::write_record(kind, from_server != 0, payload, trace, *at);
-    *at = trace::place_to(written, *at);
-    trace::written_number(written)
+    let written = trace_writer::write_record(kind, from_server != 0, payload, trace, *at);
+    *at = trace_places::place_to(written, *at);
+    trace_places::written_number(written)
 }
 
 // Reads the head of a trace.
@@ -42,10 +42,10 @@ pub extern "C" fn smb3seal_trace_record(
 pub extern "C" fn smb3seal_trace_read_head(trace: &[u8], dialect: &mut u16, cipher: &mut u16) -> u32
     ensures { λ r. ⌜ ReadsHead (readFileHead (now (trace .entry))) r (now (dialect .entry)) (now (dialect .exit)) (now (cipher .entry)) (now (cipher .exit)) ⌝ }
 {
-    let head = trace::read_file_head(trace);
-    *dialect = trace::dialect_to(head, *dialect);
-    *cipher = trace::cipher_to(head, *cipher);
-    trace::head_number(head)
+    let head = trace_reader::read_file_head(trace);
+    *dialect = trace_places::dialect_to(head, *dialect);
+    *cipher = trace_places::cipher_to(head, *cipher);
+    trace_places::head_number(head)
 }
 
 // Reads the record at a place of a trace.
@@ -60,13 +60,13 @@ pub extern "C" fn smb3seal_trace_read(
 ) -> u32
     ensures { λ r. ⌜ ReadsRecord (readIn (now (trace .entry)) (now (at .entry))) r (now (at .entry)) (now (at .exit)) (now (kind .entry)) (now (kind .exit)) (now («from_server» .entry)) (now («from_server» .exit)) (now (payload .entry)) (now (payload .exit)) (now («payload_len» .entry)) (now («payload_len» .exit)) ⌝ }
 {
-    let read = trace::read_in(trace, *at);
-    *at = trace::next_to(read, *at);
-    *kind = trace::kind_to(read, *kind);
-    *from_server = trace::from_server_to(read, *from_server);
-    *payload = trace::payload_to(read, *payload);
-    *payload_len = trace::length_to(read, *payload_len);
-    trace::read_number(read)
+    let read = trace_reader::read_in(trace, *at);
+    *at = trace_places::next_to(read, *at);
+    *kind = trace_places::kind_to(read, *kind);
+    *from_server = trace_places::from_server_to(read, *from_server);
+    *payload = trace_places::payload_to(read, *payload);
+    *payload_len = trace_places::length_to(read, *payload_len);
+    trace_places::read_number(read)
 }
 
 // Copies what is good of a damaged trace, and lists its gaps.

@@ -13,12 +13,12 @@ use lib.ListN.{length, take, drop, getD, length-drop, drop-of-length-le}
 use lib.Seq.{drop-cons, drop-drop}
 use types.Run.{OneOf, miss}
 use denote.Enum.Declared.{tagOf}
-use Rattle.trace.specs.Format.{Bytes, Edition, sizeIn, readable, Reading, found, end, unreadable, readAt}
-use Rattle.trace.specs.Answers.{readingOf}
-use Rattle.trace.specs.declared.reader.Read.{Read}
-use Rattle.trace.specs.declared.reader.Read.the-variants as at
-use Rattle.trace.proofs.reader.Read.{the-type}
-use Rattle.trace.proofs.FormatLaws.{Was, readable-good}
+use Rattle.trace_format.specs.Format.{Bytes, Edition, sizeIn, readable, Reading, found, end, unreadable, readAt}
+use Rattle.trace_reader.specs.Answers.{readingOf}
+use Rattle.trace_reader.specs.declared.Read.{Read}
+use Rattle.trace_reader.specs.declared.Read.the-variants as at
+use Rattle.trace_reader.proofs.Read.{the-type}
+use Rattle.trace_format.proofs.FormatLaws.{Was, readable-good}
 use Rattle.trace_rescue.specs.Rescue.{beginsMessage, isFound, passed}
 
 -- ---- what a reading says of the bytes

@@ -6,7 +6,7 @@ use Prim.Native.Nat.{ℕ, zero, suc, _+_, _*_}
 use lib.Dec.{leb}
 use lib.ListN.{length, take, drop}
 use Rattle.octets.specs.Same.{sameBytes}
-use Rattle.trace.specs.Format.{Bytes, unreadableNumber, Edition, editionOf, headIn, editionIn, goodFileHead, kindIn, lengthIn, sizeIn, readable}
+use Rattle.trace_format.specs.Format.{Bytes, unreadableNumber, Edition, editionOf, headIn, editionIn, goodFileHead, kindIn, lengthIn, sizeIn, readable}
 
 -- ---- where the reader takes up again
 

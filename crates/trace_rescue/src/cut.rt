@@ -1,12 +1,12 @@
 // The piece at a place: a good record, or a gap up to where the reader takes up again.
 use protocol_id::begins;
-use trace::Read;
-use trace::read_record;
+use trace_reader::Read;
+use trace_reader::read_record;
 ghost use mathlib.Core.Path.{_≡_};
 ghost use mathlib.Core.Bool.{cond};
 ghost use Prim.Native.Nat.{_<_, _≤_};
 ghost use lib.ListN.{length, drop};
-ghost use Rattle.trace.specs.Format.{editionOf, readable, sizeIn};
+ghost use Rattle.trace_format.specs.Format.{editionOf, readable, sizeIn};
 ghost use Rattle.trace_rescue.specs.Rescue.{beginsMessage, isFound, passed};
 ghost use Rattle.trace_rescue.specs.Answers.{Cuts};
 

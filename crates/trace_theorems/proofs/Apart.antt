@@ -9,10 +9,10 @@ use lib.Dec.{leb, eqb}
 use lib.ListN.{length, take, drop, length-take}
 use lib.Seq.{take-take}
 use Rattle.octets.specs.Numbers.{bigEndian}
-use Rattle.trace.specs.Format.{Bytes, Edition, headIn, kindIn, fromServerIn, lengthIn, admitted, goodHead, sizeIn, readable}
-use Rattle.trace.specs.Records.{Record, recordIn}
-use Rattle.trace.proofs.FormatLaws.{readable-good}
-use Rattle.trace.proofs.WriteLaws.{leb-same}
+use Rattle.trace_format.specs.Format.{Bytes, Edition, headIn, kindIn, fromServerIn, lengthIn, admitted, goodHead, sizeIn, readable}
+use Rattle.trace_format.specs.Records.{Record, recordIn}
+use Rattle.trace_format.proofs.FormatLaws.{readable-good}
+use Rattle.trace_writer.proofs.WriteLaws.{leb-same}
 
 front : (k n m : ℕ) (s : Bytes) → k + n ≤ m → take n (drop k (take m s)) ≡ take n (drop k s)
 front zero n m s h = take-take n m s (omega arith)

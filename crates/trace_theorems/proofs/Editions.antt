@@ -8,9 +8,10 @@ use native.Mathlib.Omega.{arith}
 use lib.Dec.{leb, ltb, eqb}
 use lib.ListN.{length}
 use Rattle.octets.proofs.BoolLaws.{and-true, both}
-use Rattle.trace.specs.Format.{Bytes, Edition, edition1, edition2, noEdition, Editions, editionOf, firstEditions, knownTo, headIn, editionIn, dialectIn, cipherIn}
-use Rattle.trace.specs.Format.{goodFileHead, FileReading, fileHead, badFileHead, readFileHeadBy, unreadable, readAt, afterHead, readInBy}
-use Rattle.trace.specs.Records.{headReadable, headWritable, writtenEdition}
+use Rattle.trace_format.specs.Format.{Bytes, Edition, edition1, edition2, noEdition, Editions, editionOf, firstEditions, knownTo, headIn, editionIn, dialectIn}
+use Rattle.trace_format.specs.Format.{cipherIn}
+use Rattle.trace_format.specs.Format.{goodFileHead, FileReading, fileHead, badFileHead, readFileHeadBy, unreadable, readAt, afterHead, readInBy}
+use Rattle.trace_format.specs.Records.{headReadable, headWritable, writtenEdition}
 
 -- a file of an edition that a reader does not know: its head, and every place of it
 pub other-edition : (es : Editions) (f : Bytes) → knownTo es (editionIn (headIn f)) ≡ false → readFileHeadBy es f ≡ badFileHead

@@ -12,13 +12,14 @@ use lib.ListN.{length, take, drop, length-append, length-drop, length-take, take
 use lib.Seq.{paste, take-at, drop-at, take-length, take-paste, length-paste}
 use Rattle.octets.specs.Numbers.{bigEndian}
 use Rattle.octets.proofs.NumberLaws.{big-back}
-use Rattle.trace.specs.Format.{Bytes, Edition, editionOf, known, headIn, editionIn, dialectIn, cipherIn, goodFileHead, fileHead, badFileHead}
-use Rattle.trace.specs.Format.{readFileHeadBy, readFileHead}
-use Rattle.trace.specs.Format.{sizeIn, readable}
-use Rattle.trace.specs.Records.{Record, recordIn, Contents, before, readSome, readAll, recordBytes, writable, recordsBytes, allWritable, headReadable, fileHeadBytes, Room}
-use Rattle.trace.specs.Records.{accepts, writeNext, writeList, accepted}
-use Rattle.trace.proofs.FormatLaws.{readable-good}
-use Rattle.trace.proofs.WriteLaws.{length-fileHeadBytes}
+use Rattle.trace_format.specs.Format.{Bytes, Edition, editionOf, known, headIn, editionIn, dialectIn, cipherIn, goodFileHead, fileHead, badFileHead}
+use Rattle.trace_format.specs.Format.{readFileHeadBy, readFileHead}
+use Rattle.trace_format.specs.Format.{sizeIn, readable}
+use Rattle.trace_format.specs.Records.{Record, recordIn, Contents, before, readSome, readAll, recordBytes, writable, recordsBytes, allWritable, headReadable}
+use Rattle.trace_format.specs.Records.{fileHeadBytes, Room}
+use Rattle.trace_format.specs.Records.{accepts, writeNext, writeList, accepted}
+use Rattle.trace_format.proofs.FormatLaws.{readable-good}
+use Rattle.trace_writer.proofs.WriteLaws.{length-fileHeadBytes}
 use Rattle.trace_theorems.specs.Traces.{Octets, fileOf}
 use Rattle.trace_theorems.proofs.RoundTrip.{octets-drop, Sound, sound, reads, stood, read-writable}
 

@@ -13,11 +13,12 @@ use lib.ListN.{length, take, drop, length-append, length-take, length-drop}
 use lib.Seq.{take-at, drop-at, take-add}
 use Rattle.octets.specs.Numbers.{bigEndianAfter, bigEndian, toBigEndian}
 use Rattle.octets.proofs.NumberLaws.{big-back}
-use Rattle.trace.specs.Format.{Bytes, Edition, edition1, edition2, noEdition, editionOf, headIn, kindIn, fromServerIn, lengthIn, admitted, goodHead, sizeIn, readable}
-use Rattle.trace.specs.Records.{Record, recordIn, bit, recordHead, recordBytes, writable}
+use Rattle.trace_format.specs.Format.{Bytes, Edition, edition1, edition2, noEdition, editionOf, headIn, kindIn, fromServerIn, lengthIn, admitted, goodHead}
+use Rattle.trace_format.specs.Format.{sizeIn, readable}
+use Rattle.trace_format.specs.Records.{Record, recordIn, bit, recordHead, recordBytes, writable}
 use Rattle.trace_theorems.specs.Traces.{Octets, none, more}
-use Rattle.trace.proofs.FormatLaws.{four-there, readable-good}
-use Rattle.trace.proofs.WriteLaws.{length-recordHead, bit-small}
+use Rattle.trace_format.proofs.FormatLaws.{four-there, readable-good}
+use Rattle.trace_writer.proofs.WriteLaws.{length-recordHead, bit-small}
 
 -- ---- four bytes
 

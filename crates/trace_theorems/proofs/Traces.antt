@@ -2,8 +2,8 @@
 -- Assumes nothing.
 use mathlib.Core.List.{_++_}
 use mathlib.Core.Path.{sym, ap, _∙_}
-use Rattle.trace.specs.Format.{editionOf}
-use Rattle.trace.specs.Records.{recordBytes, writable, fileHeadBytes}
+use Rattle.trace_format.specs.Format.{editionOf}
+use Rattle.trace_format.specs.Records.{recordBytes, writable, fileHeadBytes}
 use Rattle.trace_theorems.specs.Traces.{Traces}
 use Rattle.trace_theorems.proofs.RoundTrip.{sound, reads, read-writable}
 use Rattle.trace_theorems.proofs.Lists.{calls-read, whole-file, file-read, head-back, read-written, all-read-writable}

@@ -5,10 +5,12 @@ use mathlib.Core.Bool.{true, false}
 use mathlib.Core.List.{List, [], _∷_, _++_}
 use Prim.Native.Nat.{ℕ, _<_, _≤_}
 use lib.ListN.{length, take, drop}
-use Rattle.trace.specs.Format.{Bytes, editionOf, firstEditions, known, headIn, editionIn, fileHead, badFileHead, readFileHeadBy, readFileHead, goodHead, sizeIn}
-use Rattle.trace.specs.Format.{readable, unreadable, readInBy, readIn}
-use Rattle.trace.specs.Records.{Record, recordIn, readAll, recordBytes, writable, recordsBytes, allWritable, headReadable, headWritable, fileHeadBytes, Room}
-use Rattle.trace.specs.Records.{writeList, accepted}
+use Rattle.trace_format.specs.Format.{Bytes, editionOf, firstEditions, known, headIn, editionIn, fileHead, badFileHead, readFileHeadBy, readFileHead, goodHead}
+use Rattle.trace_format.specs.Format.{sizeIn}
+use Rattle.trace_format.specs.Format.{readable, unreadable, readInBy, readIn}
+use Rattle.trace_format.specs.Records.{Record, recordIn, readAll, recordBytes, writable, recordsBytes, allWritable, headReadable, headWritable, fileHeadBytes}
+use Rattle.trace_format.specs.Records.{Room}
+use Rattle.trace_format.specs.Records.{writeList, accepted}
 
 -- all are bytes
 pub data Octets : Bytes → Type 0 where

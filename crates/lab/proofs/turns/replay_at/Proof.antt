@@ -3,9 +3,9 @@
 use mathlib.Core.Path.{sym, ap, _∙_}
 use native.Mathlib.Omega.{arith}
 use denote.Ref.{now}
-use Rattle.trace.specs.Answers.{readingOf}
-use Rattle.trace.specs.Format.{editionOf, readAt}
-use Rattle.trace.proofs.FormatLaws.{at-end, was}
+use Rattle.trace_reader.specs.Answers.{readingOf}
+use Rattle.trace_format.specs.Format.{editionOf, readAt}
+use Rattle.trace_format.proofs.FormatLaws.{at-end, was}
 use Rattle.lab.proofs.TurnLaws.{ends, stops, too-long, stepped, no-record, lent-steps, lent-back}
 use borrow.Author.Needs.{needs}
 use Rattle.lab.proofs.turns.replay_at.Statement.{statement}

@@ -1,8 +1,8 @@
 -- Right because each place gets what the reading says.
 -- Assumes nothing.
 use mathlib.Core.Path.{ap, _∙_}
-use Rattle.trace.specs.Format.{Reading, readingNumber}
-use Rattle.trace.specs.Answers.{kindTo, fromServerTo, payloadTo, lengthTo, nextTo}
+use Rattle.trace_format.specs.Format.{Reading}
+use Rattle.trace_places.specs.Places.{readingNumber, kindTo, fromServerTo, payloadTo, lengthTo, nextTo}
 use borrow.Author.Needs.{needs}
 use Rattle.smb3seal.proofs.traces.smb3seal_trace_read.Statement.{statement}
 use Rattle.smb3seal.proofs.traces.smb3seal_trace_read.Tie as tie

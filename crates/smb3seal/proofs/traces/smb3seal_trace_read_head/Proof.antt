@@ -1,8 +1,8 @@
 -- Right because each place gets what the reading says.
 -- Assumes nothing.
 use mathlib.Core.Path.{ap, _∙_}
-use Rattle.trace.specs.Format.{FileReading}
-use Rattle.trace.specs.Answers.{fileNumber, dialectTo, cipherTo}
+use Rattle.trace_format.specs.Format.{FileReading}
+use Rattle.trace_places.specs.Places.{fileNumber, dialectTo, cipherTo}
 use borrow.Author.Needs.{needs}
 use Rattle.smb3seal.proofs.traces.smb3seal_trace_read_head.Statement.{statement}
 use Rattle.smb3seal.proofs.traces.smb3seal_trace_read_head.Tie as tie

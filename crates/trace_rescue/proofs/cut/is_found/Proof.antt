@@ -3,9 +3,9 @@
 use mathlib.Core.Path.{sym, ap, _∙_}
 use native.Mathlib.Omega.{arith}
 use denote.Ref.{now}
-use Rattle.trace.specs.Answers.{readingOf}
-use Rattle.trace.specs.Format.{editionOf}
-use Rattle.trace.proofs.FormatLaws.{was}
+use Rattle.trace_reader.specs.Answers.{readingOf}
+use Rattle.trace_format.specs.Format.{editionOf}
+use Rattle.trace_format.proofs.FormatLaws.{was}
 use Rattle.trace_rescue.proofs.CutLaws.{was-not, not-found, judged}
 use borrow.Author.Needs.{needs}
 use Rattle.trace_rescue.proofs.cut.is_found.Statement.{statement}
