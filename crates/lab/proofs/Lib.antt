@@ -1,4 +1,1 @@
-pub mod StepLaws
 pub mod TurnLaws
-pub mod Examples
-pub mod LineLaws

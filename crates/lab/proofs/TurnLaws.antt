@@ -18,11 +18,12 @@ use Rattle.trace_reader.specs.declared.Read.{Read}
 use Rattle.trace_reader.specs.declared.Read.the-variants as at
 use Rattle.trace_reader.proofs.Read.{the-type}
 use Rattle.trace_format.proofs.FormatLaws.{Was, not-end, admitted-24}
-use Rattle.lab.specs.Steps.{State, Steps, stepNumber, stepState, stepPayload}
-use Rattle.lab.specs.Replay.{held, answered, long, outcome, stateAfter, fileAfter, placeAfter}
-use Rattle.lab.specs.Reading.{Turns, stateOf}
-use Rattle.lab.specs.declared.kinds.Lab.{Lab}
-use Rattle.lab.specs.declared.turns.Line.the-variants.{Number, Long, Stop, End}
+use Rattle.lab_rules.specs.Steps.{State, Steps, stepNumber, stepState, stepPayload}
+use Rattle.lab_rules.specs.Replay.{held, answered, long, outcome, stateAfter, fileAfter, placeAfter}
+use Rattle.lab_state.specs.Reading.{stateOf}
+use Rattle.lab_state.specs.declared.Lab.{Lab}
+use Rattle.lab.specs.Reading.{Turns}
+use Rattle.lab.specs.declared.Line.the-variants.{Number, Long, Stop, End}
 
 module _ (r : Reading) (l : Lab) (f : Bytes) (p : ℕ) where
   abbrev s : State

@@ -1,19 +1,15 @@
--- The structs and the enum of the code, read as the lab and the outcomes of the rules.
+-- The enum and the struct of the code, read as the outcomes of the rules, and what a turn promises.
 -- Assumes nothing.
 use mathlib.Core.Path.{_≡_}
 use Prim.Native.Nat.{ℕ}
 use Rattle.protocol.specs.Bytes.{Bytes}
-use Rattle.session_table.specs.Reading.{tableOf}
 use Rattle.trace_format.specs.Format.{Reading}
-use Rattle.lab.specs.Steps.{State}
-use Rattle.lab.specs.Replay.{Outcome, answered, long, stopped, ended, outcome, stateAfter, fileAfter, placeAfter}
-use Rattle.lab.specs.declared.kinds.Lab.{Lab}
-use Rattle.lab.specs.declared.turns.Line.{Line}
-use Rattle.lab.specs.declared.turns.Line.the-variants.{Number, Long, Stop, End}
-use Rattle.lab.specs.declared.turns.Turn.{Turn}
-
-abbrev pub stateOf : Lab → State
-stateOf l = record { dialect = l .dialect; cipher = l .cipher; connection = l .connection; session = l .session; table = tableOf (l .table .records) }
+use Rattle.lab_rules.specs.Steps.{State}
+use Rattle.lab_rules.specs.Replay.{Outcome, answered, long, stopped, ended, outcome, stateAfter, fileAfter, placeAfter}
+use Rattle.lab_state.specs.Reading.{stateOf}
+use Rattle.lab.specs.declared.Line.{Line}
+use Rattle.lab.specs.declared.Line.the-variants.{Number, Long, Stop, End}
+use Rattle.lab.specs.declared.Turn.{Turn}
 
 abbrev pub outcomeOf : Line → Outcome
 outcomeOf (Number n) = answered n

@@ -7,6 +7,7 @@ use Prim.Native.Nat.{ℕ, _+_, _*_, _/_, _<_, _≤_}
 use lib.ListN.{length, drop}
 use Rattle.trace_format.specs.Format.{Bytes, Edition, editionOf, headIn, editionIn, goodFileHead, readFileHead, readable}
 use Rattle.trace_format.specs.Records.{Record, recordIn, readAll}
+use Rattle.trace_theorems.specs.Calls.{Places, foundBy}
 use Rattle.trace_rescue.specs.Rescue.{isFound, passed, Piece, kept, dropped, pieceLength, pieces, keptBytes, gapCount, rescuedFile, gapsOf, roomy}
 
 -- the bytes of the pieces, one after the other
@@ -50,6 +51,9 @@ pub record Files : Type 0 where
   pub head-stays : (f : Bytes) → goodFileHead editionOf f ≡ true → readFileHead (rescuedFile f) ≡ readFileHead f
   -- "a clean file comes out unchanged with no gap listed": one of which nothing is left when its records are read
   pub clean : (f : Bytes) → readAll (editionOf (editionIn (headIn f))) (drop 4 f) .rest ≡ [] → (rescuedFile f ≡ f) × (gapsOf f ≡ [])
+  -- what the calls of the reader find in what comes out, from the first record on: the good records, and nothing is left
+  pub found-whole : (f : Bytes) (n : ℕ) (l : Places) → goodFileHead editionOf f ≡ true → l .at ≡ 4 → length (rescuedFile f) ≤ 4 + n
+      → let e = editionOf (editionIn (headIn f)) in foundBy n (rescuedFile f) l ≡ record { records = keptRecords e (pieces e (drop 4 f)); rest = [] }
   -- so a second rescue changes nothing
   pub again : (f : Bytes) → goodFileHead editionOf f ≡ true → (rescuedFile (rescuedFile f) ≡ rescuedFile f) × (gapsOf (rescuedFile f) ≡ [])
   -- room for as many bytes as there are, and for two numbers for each nine of them and two more, is always enough

@@ -127,6 +127,20 @@ pub readable-good : (e : Edition) (s : Bytes) → readable e s ≡ true → (goo
 unfolding readable
 readable-good e s t = let b = and-true (goodHead e s) (leb (sizeIn e s) (length s)) t in (b .0, leb-true (sizeIn e s) (length s) (b .1))
 
+module _ (e : Edition) (f : Bytes) (p : ℕ) where
+  pub at-unreadable : p < length f → readable e (drop p f) ≡ false → unreadable ≡ readAt e f p
+  unfolding readAt
+  at-unreadable h q = rw (lt-leb (length f) p h, q)
+
+  pub at-readable : readable e (drop p f) ≡ true
+      → let s = drop p f in found (kindIn (headIn s)) (fromServerIn (headIn s)) (p + 4) (lengthIn e (headIn s)) (p + sizeIn e s) ≡ readAt e f p
+  unfolding readAt
+  at-readable q =
+      let g = readable-good e (drop p f) q in
+      let i = g .1 in
+      let l = length-drop p f in
+      rw (lt-leb (length f) p (omega arith), q)
+
 chosen : (a b : Bool) (k′ q′ n′ r′ k q n r : ℕ) (d′ d : Bool) → cond a end (cond b (found k′ d′ q′ n′ r′) unreadable) ≡ found k d q n r
     → (b ≡ true) × (k′ ≡ k) × (q′ ≡ q) × (n′ ≡ n) × (r′ ≡ r)
 chosen true b k′ q′ n′ r′ k q n r d′ d e = absurd (let z : _≡_ {A = ℕ} 0 1 = cc in omega arith)

@@ -3,9 +3,8 @@
 use mathlib.Core.Bool.{Bool, true, false, cond, _&&_}
 use mathlib.Core.List.{List, [], _∷_, _++_}
 use Prim.Native.Nat.{ℕ, zero, suc, _+_, _*_}
-use lib.Dec.{leb, ltb, eqb}
+use lib.Dec.{ltb, eqb}
 use lib.ListN.{length, take, drop}
-use lib.Seq.{paste}
 use Rattle.octets.specs.Numbers.{toBigEndian}
 use Rattle.trace_format.specs.Format.{Bytes, Edition, known, headIn, kindIn, fromServerIn, lengthIn, sizeIn, readable, admitted}
 
@@ -78,30 +77,3 @@ headWritable edition cipher = eqb edition writtenEdition && headReadable edition
 -- "File head, 32 bits: edition 8, dialect 16, cipher 8"
 unfoldable pub fileHeadBytes : ℕ → ℕ → ℕ → Bytes
 fileHeadBytes edition dialect cipher = toBigEndian 4 (edition * 16777216 + dialect * 256 + cipher)
-
--- ---- a list of calls of the writer
-
--- the lent room, and the place of the next record
-pub record Room : Type 0 where
-  pub bytes : Bytes
-  pub at : ℕ
-
--- whether the writer answers 36 is what `writeAnswer` says
-abbrev pub accepts : Edition → Record → Room → Bool
-accepts e r w = writable e r && leb (w .at + length (recordBytes e r)) (length (w .bytes))
-
-abbrev pub writeNext : Edition → Record → Room → Room
-writeNext e r w =
-    cond (accepts e r w)
-    (record { bytes = paste (w .bytes) (w .at) (recordBytes e r) (length (recordBytes e r)); at = w .at + length (recordBytes e r) })
-    w
-
--- each call gets the room as the one before left it
-unfoldable pub writeList : Edition → List Record → Room → Room
-writeList e [] w = w
-writeList e (r ∷ rs) w = writeList e rs (writeNext e r w)
-
--- the records that were not refused
-unfoldable pub accepted : Edition → List Record → Room → List Record
-accepted e [] w = []
-accepted e (r ∷ rs) w = cond (accepts e r w) (r ∷ accepted e rs (writeNext e r w)) (accepted e rs (writeNext e r w))

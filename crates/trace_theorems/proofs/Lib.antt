@@ -1,5 +1,6 @@
 pub mod RoundTrip
 pub mod Lists
+pub mod ByCalls
 pub mod Apart
 pub mod Editions
 pub mod Traces

@@ -7,7 +7,7 @@ use Prim.Native.Nat.{ℕ, zero, suc, _+_, _*_, _<_, _≤_}
 use native.Mathlib.Omega.{arith}
 use borrow.Author.Tests.{leb-true, le-leb, lt-ltb, ltb-true}
 use Rattle.octets.proofs.BoolLaws.{and-true, both}
-use lib.Dec.{leb, ltb}
+use lib.Dec.{leb, ltb, eqb}
 use lib.ListN.{length, take, drop, length-append, length-drop, length-take, take-append-drop}
 use lib.Seq.{paste, take-at, drop-at, take-length, take-paste, length-paste}
 use Rattle.octets.specs.Numbers.{bigEndian}
@@ -16,10 +16,12 @@ use Rattle.trace_format.specs.Format.{Bytes, Edition, editionOf, known, headIn,
 use Rattle.trace_format.specs.Format.{readFileHeadBy, readFileHead}
 use Rattle.trace_format.specs.Format.{sizeIn, readable}
 use Rattle.trace_format.specs.Records.{Record, recordIn, Contents, before, readSome, readAll, recordBytes, writable, recordsBytes, allWritable, headReadable}
-use Rattle.trace_format.specs.Records.{fileHeadBytes, Room}
-use Rattle.trace_format.specs.Records.{accepts, writeNext, writeList, accepted}
+use Rattle.trace_format.specs.Records.{fileHeadBytes}
 use Rattle.trace_format.proofs.FormatLaws.{readable-good}
 use Rattle.trace_writer.proofs.WriteLaws.{length-fileHeadBytes}
+use Rattle.trace_writer.specs.Answers.{upTo, refused}
+use Rattle.trace_places.specs.Places.{writtenNumber, placeBehind}
+use Rattle.trace_theorems.specs.Calls.{Room, writeNext, writeList, accepted}
 use Rattle.trace_theorems.specs.Traces.{Octets, fileOf}
 use Rattle.trace_theorems.proofs.RoundTrip.{octets-drop, Sound, sound, reads, stood, read-writable}
 
@@ -41,7 +43,7 @@ none-there true a z h = absurd (h refl)
 none-there false a z h = refl
 
 -- more than enough turns change nothing
-empty : (m : ℕ) (e : Edition) (s : Bytes) → length s ≤ 0 → readSome m e s ≡ stop s
+pub empty : (m : ℕ) (e : Edition) (s : Bytes) → length s ≤ 0 → readSome m e s ≡ stop s
 unfolding readSome
 empty zero e s h = refl
 empty (suc m) e s h = none-there (readable e s) _ _ (λ q. let p = past e s q in omega arith)
@@ -142,19 +144,44 @@ pub record Wrote (e : Edition) (rs : List Record) (w : Room) : Type 0 where
   pub size : length (writeList e rs w .bytes) ≡ length (w .bytes)
   pub admitted : allWritable e (accepted e rs w) ≡ true
 
-wrote-at : (t : Bool) (e : Edition) (r : Record) (rs : List Record) (w : Room) → accepts e r w ≡ t → Wrote e rs (writeNext e r w) → Wrote e (r ∷ rs) w
-unfolding writeList accepted recordsBytes
+-- the call is not refused
+abbrev holds : Edition → Record → Room → Bool
+holds e r w = writable e r && leb (w .at + length (recordBytes e r)) (length (w .bytes))
+
+abbrev pasted : Edition → Record → Room → Bytes
+pasted e r w = paste (w .bytes) (w .at) (recordBytes e r) (length (recordBytes e r))
+
+next-is : (t : Bool) (e : Edition) (r : Record) (w : Room) → holds e r w ≡ t
+    → let z = w .at + length (recordBytes e r) in
+    writeNext e r w ≡ record { bytes = cond t (pasted e r w) (w .bytes); at = placeBehind (cond t (upTo z) (refused 36)) (w .at) }
+next-is t e r w q =
+    let z = w .at + length (recordBytes e r) in
+    ap {B = Room} (λ (b : Bool). record { bytes = cond b (pasted e r w) (w .bytes); at = placeBehind (cond b (upTo z) (refused 36)) (w .at) }) q
+
+accepted-is : (t : Bool) (e : Edition) (r : Record) (rs : List Record) (w : Room) → holds e r w ≡ t
+    → let tail = accepted e rs (writeNext e r w) in accepted e (r ∷ rs) w ≡ cond t (r ∷ tail) tail
+unfolding accepted
+accepted-is t e r rs w q =
+    let z = w .at + length (recordBytes e r) in
+    let tail : List Record = accepted e rs (writeNext e r w) in
+    ap (λ (b : Bool). cond (eqb (writtenNumber (cond b (upTo z) (refused 36))) 0) (r ∷ tail) tail) q ∙ by t
+  where
+    by : (t : Bool) → let tail = accepted e rs (writeNext e r w) in
+        cond (eqb (writtenNumber (cond t (upTo (w .at + length (recordBytes e r))) (refused 36))) 0) (r ∷ tail) tail ≡ cond t (r ∷ tail) tail
+    by true = refl
+    by false = refl
+
+wrote-at : (t : Bool) (e : Edition) (r : Record) (rs : List Record) (w : Room) → holds e r w ≡ t → Wrote e rs (writeNext e r w) → Wrote e (r ∷ rs) w
+unfolding writeList recordsBytes
 wrote-at true e r rs w q k =
     let a = and-true (writable e r) (leb (w .at + length (recordBytes e r)) (length (w .bytes))) q in
     let l = leb-true (w .at + length (recordBytes e r)) (length (w .bytes)) (a .1) in
-    let p : Bytes = paste (w .bytes) (w .at) (recordBytes e r) (length (recordBytes e r)) in
-    let front : take (w .at + length (recordBytes e r)) p ≡ take (w .at) (w .bytes) ++ recordBytes e r =
+    let front : take (w .at + length (recordBytes e r)) (pasted e r w) ≡ take (w .at) (w .bytes) ++ recordBytes e r =
     take-paste (w .bytes) (w .at) (recordBytes e r) (length (recordBytes e r)) (omega arith) (omega arith)
     ∙ ap (λ (x : Bytes). take (w .at) (w .bytes) ++ x) (take-length (recordBytes e r)) in
-    let on : Room = record { bytes = p; at = w .at + length (recordBytes e r) } in
-    let next : writeNext e r w ≡ on = ap (λ (t : Bool). cond t on w) q in
+    let next = next-is true e r w q in
+    let acc = accepted-is true e r rs w q in
     let tail : List Record = accepted e rs (writeNext e r w) in
-    let acc : accepted e (r ∷ rs) w ≡ r ∷ tail = ap (λ (t : Bool). cond t (r ∷ tail) tail) q in
     record {
       bytes =
           k .bytes
@@ -168,10 +195,9 @@ wrote-at true e r rs w q k =
       admitted = ap (allWritable e) acc ∙ ap (λ (t : Bool). t && allWritable e tail) (a .0) ∙ k .admitted;
     }
 wrote-at false e r rs w q k =
-    let on : Room = record { bytes = paste (w .bytes) (w .at) (recordBytes e r) (length (recordBytes e r)); at = w .at + length (recordBytes e r) } in
-    let next : writeNext e r w ≡ w = ap (λ (t : Bool). cond t on w) q in
+    let next = next-is false e r w q in
+    let acc = accepted-is false e r rs w q in
     let tail : List Record = accepted e rs (writeNext e r w) in
-    let acc : accepted e (r ∷ rs) w ≡ tail = ap (λ (t : Bool). cond t (r ∷ tail) tail) q in
     record {
       bytes =
           k .bytes
@@ -184,7 +210,7 @@ wrote-at false e r rs w q k =
 pub wrote : (e : Edition) (rs : List Record) (w : Room) → Wrote e rs w
 unfolding writeList accepted recordsBytes
 wrote e [] w = record { bytes = sym (append-nil (take (w .at) (w .bytes))); size = refl; admitted = refl }
-wrote e (r ∷ rs) w = wrote-at (accepts e r w) e r rs w refl (wrote e rs (writeNext e r w))
+wrote e (r ∷ rs) w = wrote-at (holds e r w) e r rs w refl (wrote e rs (writeNext e r w))
 
 -- "Writing then reading gives the same records": the reader finds what the writer did not refuse, and nothing else
 pub calls-read : (n : ℕ) (rs : List Record) (w : Room) → w .at ≤ length (w .bytes)

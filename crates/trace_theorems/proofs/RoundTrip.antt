@@ -111,7 +111,7 @@ sound n = by (eqb n 1) (eqb n 2)
 
 -- ---- one record
 
-parts : (e : Edition) (k n : ℕ) → admitted e k n ≡ true → (k ≤ 3) × (1 ≤ n) × (n ≤ e .longest)
+pub parts : (e : Edition) (k n : ℕ) → admitted e k n ≡ true → (k ≤ 3) × (1 ≤ n) × (n ≤ e .longest)
 parts e k n t =
     let p = and-true (leb k 3) _ t in
     let q = and-true (leb 1 n) _ (p .1) in

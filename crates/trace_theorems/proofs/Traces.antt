@@ -7,6 +7,7 @@ use Rattle.trace_format.specs.Records.{recordBytes, writable, fileHeadBytes}
 use Rattle.trace_theorems.specs.Traces.{Traces}
 use Rattle.trace_theorems.proofs.RoundTrip.{sound, reads, read-writable}
 use Rattle.trace_theorems.proofs.Lists.{calls-read, whole-file, file-read, head-back, read-written, all-read-writable}
+use Rattle.trace_theorems.proofs.ByCalls.{found-all, found-none, written-found}
 use Rattle.trace_theorems.proofs.Apart.{same-readable, same-record}
 use Rattle.trace_theorems.proofs.Editions.{other-edition, first-read, one-written, first-refuses}
 
@@ -25,6 +26,12 @@ traces =
             calls-read = calls-read;
             file-read = λ n d c rs hn hd k w. whole-file n d c rs k hn hd w;
             written-again = λ n s o. (read-written n o, all-read-writable n s);
+          };
+      reading-by-calls =
+          record {
+            found-all = found-all;
+            found-none = found-none;
+            written-found = λ d c n rs w l hd hc four h first. written-found d c w hd hc four n rs l first h;
           };
       reading-apart =
           record {

@@ -3,14 +3,14 @@
 use mathlib.Core.Path.{_≡_}
 use mathlib.Core.Bool.{true, false}
 use mathlib.Core.List.{List, [], _∷_, _++_}
-use Prim.Native.Nat.{ℕ, _<_, _≤_}
+use Prim.Native.Nat.{ℕ, _+_, _<_, _≤_}
 use lib.ListN.{length, take, drop}
 use Rattle.trace_format.specs.Format.{Bytes, editionOf, firstEditions, known, headIn, editionIn, fileHead, badFileHead, readFileHeadBy, readFileHead, goodHead}
 use Rattle.trace_format.specs.Format.{sizeIn}
 use Rattle.trace_format.specs.Format.{readable, unreadable, readInBy, readIn}
 use Rattle.trace_format.specs.Records.{Record, recordIn, readAll, recordBytes, writable, recordsBytes, allWritable, headReadable, headWritable, fileHeadBytes}
-use Rattle.trace_format.specs.Records.{Room}
-use Rattle.trace_format.specs.Records.{writeList, accepted}
+use Rattle.trace_format.specs.Records.{writtenEdition}
+use Rattle.trace_theorems.specs.Calls.{Room, writeHead, writeList, accepted, Places, foundBy}
 
 -- all are bytes
 pub data Octets : Bytes → Type 0 where
@@ -44,6 +44,20 @@ pub record WritingThenReading : Type 0 where
   pub written-again : (n : ℕ) (s : Bytes) → Octets s → let c = readAll (editionOf n) s in
       (recordsBytes (editionOf n) (c .records) ++ c .rest ≡ s) × (allWritable (editionOf n) (c .records) ≡ true)
 
+-- what the calls of the reader find of a trace f, with anything in the places that are lent to them, is what `readAll` has. As many calls as
+-- bytes are enough
+pub record ReadingByCalls : Type 0 where
+  -- from any place on
+  pub found-all : (f : Bytes) (e d c n : ℕ) (l : Places) → readFileHead f ≡ fileHead e d c → length f ≤ l .at + n
+      → foundBy n f l ≡ readAll (editionOf e) (drop (l .at) f)
+  -- under a bad file head nothing
+  pub found-none : (f : Bytes) (n : ℕ) (l : Places) → readFileHead f ≡ badFileHead → foundBy n f l ≡ record { records = []; rest = drop (l .at) f }
+  -- "Writing then reading gives the same records", by calls alone: a file head and any list of records, refused ones included, into any room
+  -- that holds the head; then from the first record on up to where was written
+  pub written-found : (d c n : ℕ) (rs : List Record) (w : Room) (l : Places) → d < 65536 → c < 256 → 4 ≤ length (w .bytes) → length (w .bytes) ≤ 4 + n
+      → l .at ≡ 4 → let e = editionOf writtenEdition in let headed = writeHead writtenEdition d c w in let after = writeList e rs headed in
+      foundBy n (take (after .at) (after .bytes)) l ≡ record { records = accepted e rs headed; rest = [] }
+
 -- a reader that gets a file in pieces
 pub record ReadingApart : Type 0 where
   -- a file of another edition is refused by its edition byte
@@ -66,5 +80,6 @@ pub record TwoEditions : Type 0 where
 pub record Traces : Type 0 where
   pub writes-what-is-read : WritesWhatIsRead
   pub writing-then-reading : WritingThenReading
+  pub reading-by-calls : ReadingByCalls
   pub reading-apart : ReadingApart
   pub two-editions : TwoEditions

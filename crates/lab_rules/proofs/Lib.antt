@@ -1,0 +1,5 @@
+pub mod StepLaws
+pub mod LineLaws
+pub mod Lengths
+pub mod Replayed
+pub mod Examples
