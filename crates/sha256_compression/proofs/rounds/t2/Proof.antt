@@ -1,5 +1,6 @@
 -- Right because it is the definition.
 -- Assumes nothing.
+use mathlib.Core.Path.{_∙_}
 use Rattle.sha2.specs.Sha2.{t2}
 use borrow.Author.Needs.{needs}
 use Rattle.sha256_compression.proofs.rounds.t2.Statement.{statement}
@@ -7,7 +8,7 @@ use Rattle.sha256_compression.proofs.rounds.t2.Tie as tie
 
 returns : tie.Need-returns
 unfolding t2
-returns c = cc
+returns c = c .wrapping-add-u32 .ensures ∙ rw (c .before .maj .ensures, c .before .before .big-sigma0 .ensures)
 
 pub t2-spec : {M : Type 1} → statement M
 t2-spec =

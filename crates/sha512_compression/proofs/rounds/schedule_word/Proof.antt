@@ -1,5 +1,6 @@
 -- Right because it is the definition, sum by sum.
 -- Assumes nothing.
+use mathlib.Core.Path.{_∙_}
 use Rattle.sha2.specs.Sha2.{scheduleWord}
 use borrow.Author.Needs.{needs}
 use Rattle.sha512_compression.proofs.rounds.schedule_word.Statement.{statement}
@@ -7,7 +8,12 @@ use Rattle.sha512_compression.proofs.rounds.schedule_word.Tie as tie
 
 returns : tie.Need-returns
 unfolding scheduleWord
-returns c = cc
+returns c =
+    let second = c .before in
+    let sigma0 = second .before in
+    let first = sigma0 .before in
+    let sigma1 = first .before in
+    c .wrapping-add-u643 .ensures ∙ rw (second .wrapping-add-u642 .ensures, sigma0 .small-sigma0 .ensures, first .wrapping-add-u64 .ensures, sigma1 .small-sigma1 .ensures)
 
 pub schedule-word-spec : {M : Type 1} → statement M
 schedule-word-spec =
