@@ -14,12 +14,12 @@ use Rattle.preauth.proofs.asks_for_more.Tie as tie
 
 returns : tie.Need-returns
 returns c =
-    let m = now (c .before .args .message) in
+    let m = now (c .before .before .args .message) in
     sym (ap (λ (b : Bool). b && moreProcessing m) (lt-leb 12 (length m) (c .if1 .taken)))
 
 returns-2 : tie.Need-returns-2
 returns-2 c =
-    let m = now (c .before .before .args .message) in
+    let m = now (c .before .before .before .args .message) in
     ap (λ (s : ℕ). eqb s 0xC0000016) (c .u32-at .ensures) ∙ sym (ap (λ (b : Bool). b && moreProcessing m) (le-leb 12 (length m) (c .before .if1 .left)))
 
 pub asks-for-more-spec : {M : Type 1} → statement M
