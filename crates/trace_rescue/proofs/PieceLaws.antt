@@ -9,7 +9,7 @@ use native.Mathlib.Omega.{arith}
 use lib.ListN.{length, take, drop, length-append, length-take, length-drop, drop-of-length-le}
 use lib.Seq.{drop-drop, paste, paste-zero, length-paste}
 use Rattle.trace_format.specs.Format.{Bytes, Edition, sizeIn, readable}
-use Rattle.trace_writer.proofs.WriteLaws.{paste-two}
+use Rattle.trace_format.proofs.ByteLaws.{paste-two}
 use Rattle.trace_format.proofs.FormatLaws.{readable-good}
 use Rattle.trace_rescue.specs.Rescue.{isFound, passed, Piece, kept, dropped, pieceLength, pieceIn, piecesSome, pieces, keptBytes, gapNumbers, gapCount}
 use Rattle.trace_rescue.specs.Answers.{Cuts, Measured, Fits, Writes}

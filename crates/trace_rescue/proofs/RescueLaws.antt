@@ -11,7 +11,7 @@ use lib.ListN.{length, take, length-append, length-take}
 use lib.Seq.{paste}
 use Rattle.trace_format.specs.Format.{Bytes, editionOf, headIn, editionIn, goodFileHead, fileHead, badFileHead, readFileHeadBy, readFileHead}
 use Rattle.octets.proofs.BoolLaws.{and-true}
-use Rattle.trace_writer.proofs.WriteLaws.{leb-same, paste-two}
+use Rattle.trace_format.proofs.ByteLaws.{leb-same, paste-two}
 use Rattle.trace_rescue.specs.Rescue.{Piece, piecesIn, piecesOf, keptBytes, gapNumbers, gapCount, roomy, rescuedFile, done}
 use Rattle.trace_rescue.specs.Answers.{Measured, Fits, Writes, Rescues}
 use Rattle.trace_rescue.specs.declared.Sizes.{Sizes}

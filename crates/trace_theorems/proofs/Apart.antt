@@ -12,7 +12,7 @@ use Rattle.octets.specs.Numbers.{bigEndian}
 use Rattle.trace_format.specs.Format.{Bytes, Edition, headIn, kindIn, fromServerIn, lengthIn, admitted, goodHead, sizeIn, readable}
 use Rattle.trace_format.specs.Records.{Record, recordIn}
 use Rattle.trace_format.proofs.FormatLaws.{readable-good}
-use Rattle.trace_writer.proofs.WriteLaws.{leb-same}
+use Rattle.trace_format.proofs.ByteLaws.{leb-same}
 
 front : (k n m : ℕ) (s : Bytes) → k + n ≤ m → take n (drop k (take m s)) ≡ take n (drop k s)
 front zero n m s h = take-take n m s (omega arith)

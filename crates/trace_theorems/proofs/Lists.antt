@@ -18,7 +18,7 @@ use Rattle.trace_format.specs.Format.{sizeIn, readable}
 use Rattle.trace_format.specs.Records.{Record, recordIn, Contents, before, readSome, readAll, recordBytes, writable, recordsBytes, allWritable, headReadable}
 use Rattle.trace_format.specs.Records.{fileHeadBytes}
 use Rattle.trace_format.proofs.FormatLaws.{readable-good}
-use Rattle.trace_writer.proofs.WriteLaws.{length-fileHeadBytes}
+use Rattle.trace_format.proofs.ByteLaws.{length-fileHeadBytes}
 use Rattle.trace_writer.specs.Answers.{upTo, refused}
 use Rattle.trace_places.specs.Places.{writtenNumber, placeBehind}
 use Rattle.trace_theorems.specs.Calls.{Room, writeNext, writeList, accepted}

@@ -18,7 +18,7 @@ use Rattle.trace_format.specs.Format.{sizeIn, readable}
 use Rattle.trace_format.specs.Records.{Record, recordIn, bit, recordHead, recordBytes, writable}
 use Rattle.trace_theorems.specs.Traces.{Octets, none, more}
 use Rattle.trace_format.proofs.FormatLaws.{four-there, readable-good}
-use Rattle.trace_writer.proofs.WriteLaws.{length-recordHead, bit-small}
+use Rattle.trace_format.proofs.ByteLaws.{length-recordHead, bit-small}
 
 -- ---- four bytes
 

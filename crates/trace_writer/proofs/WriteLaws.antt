@@ -6,50 +6,20 @@ use mathlib.Core.List.{_++_}
 use Prim.Native.Nat.{ℕ, _+_, _*_, _<_, _≤_}
 use native.Mathlib.Nat.{mul-le-mul-right}
 use native.Mathlib.Omega.{arith}
-use borrow.Author.Tests.{le-leb, lt-leb, leb-true, leb-false, lt-ltb, le-ltb, eq-eqb, ne-eqb, not-true, not-false}
+use borrow.Author.Tests.{le-leb, lt-leb, leb-true, lt-ltb, le-ltb, eq-eqb, ne-eqb, not-true, not-false}
 use lib.Dec.{leb, ltb, eqb}
-use lib.ListN.{length, take, drop, length-append}
-use lib.Seq.{paste, take-at, drop-at, take-length}
+use lib.ListN.{length, length-append}
+use lib.Seq.{paste}
 use Rattle.octets.proofs.BoolLaws.{and-true, both}
-use Rattle.octets.proofs.Paste.{paste-more}
-use Rattle.octets.proofs.NumberLaws.{length-toBigEndian}
 use Rattle.trace_format.specs.Format.{Bytes, Edition, known, admitted}
-use Rattle.trace_format.specs.Records.{Record, recordHead, recordBytes, writable, writtenEdition, headReadable, headWritable, fileHeadBytes, bit}
-use Rattle.trace_writer.specs.Answers.{Writes, upTo, recordWith}
-use Rattle.trace_writer.specs.declared.Writing.the-variants.{UpTo, Refused}
+use Rattle.trace_format.specs.Records.{Record, recordHead, recordBytes, writable, writtenEdition, headReadable, headWritable, fileHeadBytes}
 use Rattle.trace_format.specs.Layouts.{IsEdition}
 use Rattle.trace_format.specs.declared.Layout.{Layout}
+use Rattle.trace_format.proofs.ByteLaws.{length-recordHead, length-fileHeadBytes, paste-two}
+use Rattle.trace_writer.specs.Answers.{Writes, upTo, recordWith}
+use Rattle.trace_writer.specs.declared.Writing.the-variants.{UpTo, Refused}
 
-pub length-recordHead : (e : Edition) (k : ℕ) (d : Bool) (n : ℕ) → length (recordHead e k d n) ≡ 4
-unfolding recordHead
-length-recordHead e k d n = length-toBigEndian 4 _
-
-pub length-fileHeadBytes : (e d c : ℕ) → length (fileHeadBytes e d c) ≡ 4
-unfolding fileHeadBytes
-length-fileHeadBytes e d c = length-toBigEndian 4 _
-
-pub bit-small : (d : Bool) → bit d ≤ 1
-bit-small true = omega arith
-bit-small false = omega arith
-
--- two tests of numbers that hold together
-pub leb-same : (a b x y : ℕ) → (a ≤ b → x ≤ y) → (b < a → y < x) → leb a b ≡ leb x y
-leb-same a b x y f g = by (leb a b) refl
-  where
-    by : (t : Bool) → leb a b ≡ t → leb a b ≡ leb x y
-    by true e = e ∙ sym (le-leb x y (f (leb-true a b e)))
-    by false e = e ∙ sym (lt-leb x y (g (leb-false a b e)))
-
--- two runs, one behind the other
-pub paste-two : (d : Bytes) (at : ℕ) (a b : Bytes) → at + length a ≤ length d
-    → paste (paste d at a (length a)) (at + length a) b (length b) ≡ paste d at (a ++ b) (length (a ++ b))
-paste-two d at a b h =
-    let l = length-append a b in
-    let m : take (length a) a ≡ take (length a) (a ++ b) = take-length a ∙ sym (take-at a b (length a) refl) in
-    ap (λ (x : Bytes). paste (take at d ++ x ++ drop (at + length a) d) (at + length a) b (length b)) m
-    ∙ paste-more d at (a ++ b) b (length a) (length b) (omega arith) (omega arith) (ap (take (length b)) (sym (drop-at a b (length a) refl)))
-    ∙ ap (paste d at (a ++ b)) (sym l)
-
+-- head and payload, one behind the other
 pub head-and-payload : (d : Bytes) (at : ℕ) (a b m after : Bytes) → length a ≡ 4 → at + (4 + length b) ≤ length d → m ≡ paste d at a (length a)
     → after ≡ paste m (at + 4) b (length b) → after ≡ paste d at (a ++ b) (length (a ++ b))
 head-and-payload d at a b m after four h em ea =

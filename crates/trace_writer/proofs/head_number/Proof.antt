@@ -1,6 +1,6 @@
 -- Right because the three fields fit into 32 bits.
 -- Assumes nothing.
-use Rattle.trace_writer.proofs.WriteLaws.{bit-small}
+use Rattle.trace_format.proofs.ByteLaws.{bit-small}
 use native.Mathlib.Omega.{arith}
 use borrow.Author.Needs.{needs}
 use Rattle.trace_writer.proofs.head_number.Statement.{statement}

@@ -1,7 +1,7 @@
 -- Right because the differences are tested that the sum stands for.
 -- Assumes nothing.
 use Prim.Native.Nat.{_+_, _-_}
-use Rattle.trace_writer.proofs.WriteLaws.{leb-same}
+use Rattle.trace_format.proofs.ByteLaws.{leb-same}
 use mathlib.Core.Path.{sym}
 use borrow.Author.Tests.{lt-leb}
 use native.Mathlib.Omega.{arith}
