@@ -84,12 +84,12 @@ fn open_with(
 {
     xor_key_stream(t, keys, rounds, nonce, text);
     let expected = tag_of(t, keys, rounds, nonce, aad, text);
-    if compare::same_16(tag, expected) {
-        true
-    } else {
-        xor_key_stream(t, keys, rounds, nonce, text);
-        false
+    let right = compare::same_16(tag, expected);
+    if right {
+        return right;
     }
+    xor_key_stream(t, keys, rounds, nonce, text);
+    right
 }
 
 // Encrypts the text, or turns it back.

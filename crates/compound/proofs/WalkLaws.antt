@@ -20,6 +20,11 @@ pub record Walking (m : Bytes) (e : Envelope) (p n : ℕ) : Type 0 where
   pub begun : 1 ≤ n
   pub so-far : walk m e ≡ walkOn (suc (length m) - n) m e p n
 
+-- the header d bytes after the one at p was judged with k, after n that passed
+pub record Judged (m : Bytes) (e : Envelope) (p d n k : ℕ) : Type 0 where
+  pub stops : (k ≡ 0 → ⊥) → walk m e ≡ refused k
+  pub goes-on : k ≡ 0 → Walking m e (p + d) (n + 1)
+
 fuel-start : (l : ℕ) → l ≡ suc l - 1
 fuel-start l = omega arith
 
@@ -31,11 +36,11 @@ fuel-next l n h = omega arith
 
 -- the first header, whose tests say k
 module _ (m : Bytes) (e : Envelope) (k : ℕ) (says : k ≡ firstOf (firstHeaderTests m e)) where
-  pub refused-at-once : (k ≡ 0 → ⊥) → walk m e ≡ refused k
+  refused-at-once : (k ≡ 0 → ⊥) → walk m e ≡ refused k
   unfolding walk
   refused-at-once h = refuses (firstHeaderTests m e) (walkOn (length m) m e 0 1) k says h
 
-  pub begins : k ≡ 0 → Walking m e 0 1
+  begins : k ≡ 0 → Walking m e 0 1
   unfolding walk
   begins z =
       let none : NoneApplies (firstHeaderTests m e) = passes (firstHeaderTests m e) k refl says z in
@@ -46,6 +51,9 @@ module _ (m : Bytes) (e : Envelope) (k : ℕ) (says : k ≡ firstOf (firstHeader
         begun = omega arith;
         so-far = judge-passed (firstHeaderTests m e) (walkOn (length m) m e 0 1) none ∙ ap (λ (j : ℕ). walkOn j m e 0 1) (fuel-start (length m));
       }
+
+  pub first-judged : Judged m e 0 0 0 k
+  first-judged = record { stops = refused-at-once; goes-on = begins }
 
 -- the header at p, which says that the next one begins d bytes on
 module _ (m : Bytes) (e : Envelope) (p n : ℕ) (w : Walking m e p n) (d : ℕ) (is : d ≡ nextCommand m p) where
@@ -63,11 +71,11 @@ module _ (m : Bytes) (e : Envelope) (p n : ℕ) (w : Walking m e p n) (d : ℕ) 
     judged : walk m e ≡ judge (nextHeaderTests m e p d) (walkOn (length m - n) m e (p + d) (n + 1))
     judged = now-at ∙ rw (← is, ne-eqb d 0 more)
 
-    pub stops : (k ≡ 0 → ⊥) → walk m e ≡ refused k
-    stops h = judged ∙ refuses (nextHeaderTests m e p d) (walkOn (length m - n) m e (p + d) (n + 1)) k says h
+    next-stops : (k ≡ 0 → ⊥) → walk m e ≡ refused k
+    next-stops h = judged ∙ refuses (nextHeaderTests m e p d) (walkOn (length m - n) m e (p + d) (n + 1)) k says h
 
-    pub goes-on : k ≡ 0 → Walking m e (p + d) (n + 1)
-    goes-on z =
+    next-walks : k ≡ 0 → Walking m e (p + d) (n + 1)
+    next-walks z =
         let none : NoneApplies (nextHeaderTests m e p d) = passes (nextHeaderTests m e p d) k refl says z in
         let within = or-false (ltb d 64) (ltb (length m) (p + d + 64)) (none .0) in
         let far : 64 ≤ d = ltb-false d 64 (within .0) in
@@ -83,3 +91,6 @@ module _ (m : Bytes) (e : Envelope) (p n : ℕ) (w : Walking m e p n) (d : ℕ) 
               ∙ judge-passed (nextHeaderTests m e p d) (walkOn (length m - n) m e (p + d) (n + 1)) none
               ∙ ap (λ (j : ℕ). walkOn j m e (p + d) (n + 1)) (fuel-next (length m) n (omega arith));
         }
+
+    pub next-judged : Judged m e p d n k
+    next-judged = record { stops = next-stops; goes-on = next-walks }

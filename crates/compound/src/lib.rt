@@ -21,22 +21,21 @@ pub struct Envelope {
 pub fn walk_headers(message: &[u8], e: Envelope) -> Answer
     ensures { λ r. ⌜ answerOf r ≡ walk (now (message .entry)) (envelopeOf e) ⌝ }
 {
-    let first = first_number(message, e);
-    if first != 0 {
-        return Answer::Refused(first);
-    }
+    // the header d bytes after the one at p was judged, after n that passed
+    let mut number = first_number(message, e);
     let mut p: usize = 0;
-    let mut n: u64 = 1;
+    let mut d: usize = 0;
+    let mut n: u64 = 0;
     loop {
-        let d = next_command(message, p);
-        if d == 0 {
-            break Answer::Done(n);
-        }
-        let next = next_number(message, e, p, d);
-        if next != 0 {
-            break Answer::Refused(next);
+        if number != 0 {
+            break Answer::Refused(number);
         }
         p += d;
         n += 1;
+        d = next_command(message, p);
+        if d == 0 {
+            break Answer::Done(n);
+        }
+        number = next_number(message, e, p, d);
     }
 }

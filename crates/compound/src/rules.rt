@@ -34,11 +34,8 @@ pub fn next_number(m: &[u8], e: Envelope, p: usize, d: usize) -> u32
     requires { ⌜ p + 64 ≤ length (now m) ⌝ }
     ensures { λ r. ⌜ r ≡ firstOf (nextHeaderTests (now (m .entry)) (envelopeOf e) p d) ⌝ }
 {
-    if d < 64 {
-        return 15;
-    }
     // p + 64 is at most the length, so this difference does not wrap, where the sum p + d + 64 could
-    if m.len() - p - 64 < d {
+    if (d < 64) | (m.len() - p - 64 < d) {
         return 15;
     }
     if d % 8 != 0 {

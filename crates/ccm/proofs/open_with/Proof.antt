@@ -1,6 +1,5 @@
 -- Right because the key stream, applied twice, gives the text back where the tag differs.
 -- Assumes nothing.
-use mathlib.Core.Path.{sym, _∙_}
 use denote.Ref.{now}
 use Rattle.aes.specs.Cipher.{cipher}
 use Rattle.ccm.proofs.Opening.{opened-right, opened-wrong}
@@ -14,7 +13,7 @@ returns c =
     let m = c .before .before .before .before .before .before .xor-key-stream in
     let a = c .before .before .before .before .before .before .before .before .before .args in
     opened-right (cipher (a .rounds) (a .keys)) (a .nonce) (a .aad) (a .tag) (now (a .text))
-    (m .last .1 .1 .1 .1 .0) (u .result) (m .ensures) (u .ensures) (sym (c .before .same-16 .ensures) ∙ c .if1 .taken)
+    (m .last .1 .1 .1 .1 .0) (u .result) (m .ensures) (u .ensures) _ (c .before .same-16 .ensures) (c .if1 .taken)
 
 returns-2 : tie.Need-returns-2
 returns-2 c =
@@ -23,7 +22,7 @@ returns-2 c =
     let m = i .before .before .before .before .before .before .xor-key-stream in
     let a = i .before .before .before .before .before .before .before .before .before .args in
     opened-wrong (cipher (a .rounds) (a .keys)) (a .nonce) (a .aad) (a .tag) (now (a .text))
-    (m .last .1 .1 .1 .1 .0) (u .result) (m .ensures) (u .ensures) _ (sym (i .before .same-16 .ensures) ∙ i .if1 .left)
+    (m .last .1 .1 .1 .1 .0) (u .result) (m .ensures) (u .ensures) _ (i .before .same-16 .ensures) _ (i .if1 .left)
     (c .before .before .xor-key-stream2 .ensures)
 
 pub open-with-spec : {M : Type 1} → statement M
@@ -33,8 +32,8 @@ open-with-spec =
     (λ c κs. search needs)
     (λ c κs. search needs)
     (λ c κs. search needs)
-    (λ c κs. search needs)
     (λ c. search needs)
     returns
+    (λ c κs. search needs)
     (λ c. search needs)
     returns-2)
