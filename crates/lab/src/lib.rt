@@ -4,7 +4,6 @@ use trace_reader::Read;
 ghost use Rattle.trace_format.specs.Format.{editionOf, readAt};
 ghost use Rattle.lab_state.specs.Reading.{stateOf};
 ghost use Rattle.lab.specs.Reading.{Turns};
-
 pub use lab_state::Lab;
 pub use lab_state::fresh;
 

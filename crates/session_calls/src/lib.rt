@@ -67,7 +67,10 @@ pub fn add_record(
             session: old,
         };
     }
-    let s = session_record::new::fresh(a, derived_keys::derived(a.dialect, a.cipher, chain, material));
+    let s = session_record::new::fresh(
+        a,
+        derived_keys::derived(a.dialect, a.cipher, chain, material),
+    );
     Changed {
         number: n,
         session: s,
