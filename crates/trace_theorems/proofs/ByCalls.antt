@@ -16,7 +16,7 @@ use Rattle.trace_format.specs.Records.{Record, recordIn, Contents, before, read
 use Rattle.trace_format.specs.Records.{fileHeadBytes}
 use Rattle.trace_format.proofs.FormatLaws.{at-end, at-unreadable, at-readable, was, in-bad, in-good}
 use Rattle.trace_writer.specs.Answers.{upTo, refused}
-use Rattle.trace_writer.proofs.WriteLaws.{length-fileHeadBytes}
+use Rattle.trace_format.proofs.ByteLaws.{length-fileHeadBytes}
 use Rattle.trace_places.specs.Places.{placeBehind, readingNumber}
 use Rattle.trace_theorems.specs.Calls.{Room, writeHead, writeList, accepted, Places, placesAfter, recordAt, foundBy}
 use Rattle.trace_theorems.specs.Traces.{fileOf}
@@ -58,7 +58,7 @@ module _ (f : Bytes) (e : Edition) (l : Places) where
   turn-on : (n : ℕ) → readable e s ≡ true → turn f n l there ≡ before (recordAt f after) (foundBy n f after)
   turn-on n q =
       let w = was e f (l .at) _ _ _ _ _ (at-readable e f (l .at) q) in
-      let some = parts e _ _ (w .admits) .1 in
+      let some = parts e (kindIn (headIn s)) (lengthIn e (headIn s)) (w .admits) .1 in
       ap (λ (b : Bool). cond (true && not b) (before (recordAt f after) (foundBy n f after)) (stop (drop (after .at) f)))
       (ne-eqb (lengthIn e (headIn s)) 0 (λ z. omega arith))
 
