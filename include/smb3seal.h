@@ -263,8 +263,9 @@ uint32_t smb3seal_fold_response(uint8_t *chain, size_t chain_len, const uint8_t 
  *     if (step.number != 0) ..
  *
  * A state goes in by value and the one to go on with comes back: hand in the latest, and each once. It is the library's: a program
- * stores it, copies it and wipes it, and never looks inside. Any bytes are a state and get an answer; one of zero bytes has no message
- * under way, and so has one that a refused begin or any finish handed back: a piece and a finish are then 23.
+ * stores it, copies it and wipes it, and never looks inside. One of zero bytes has no message under way, and so has one that a refused
+ * begin or any finish handed back: a piece and a finish are then 23. Any other bytes are a state too and get an answer, which may be 0:
+ * a finish then folds what they make, and that need not be any message.
  *
  * After a refused piece the message goes on without that piece, and a finish folds the rest. That is not the message that the peer
  * sent: give it up, and disconnect. And finish or give up one message before another goes into the same chain.
@@ -445,8 +446,8 @@ uint32_t smb3seal_verify(const uint8_t *key, size_t key_len, const uint8_t *mess
  *
  * A state goes in by value and the one to go on with comes back: hand in the latest, and each once. It is the library's: a program stores
  * it and copies it, and never looks inside. It holds the key: wipe it, and every copy, where the message has ended or is given up, as you
- * would the key. Any bytes are a state and get an answer. One of zero bytes has no message, and a refused begin and any finish hand that
- * one back, in which no key is left: a piece is then 3, and a finish 11.
+ * would the key. One of zero bytes has no message, and a refused begin and any finish hand that one back, in which no key is left: a piece
+ * is then 3, and a finish 11. Any other bytes are a state too and get an answer, which may be 0: bytes that no call handed back may verify.
  *
  * After a refused piece the message goes on without that piece, and a finish is about the rest. That is not the message that the peer sent:
  * give it up.

@@ -6,7 +6,7 @@ use Prim.Native.Nat.{ℕ, _+_, _-_, _*_, _/_, _≤_, _<_, min}
 use native.Mathlib.Nat.{add-zero, le-refl}
 use native.Mathlib.Omega.{arith}
 use lib.ListN.{length, take, drop, replicate, length-append, length-drop, take-append-drop}
-use lib.Seq.{paste, take-paste, take-length, length-take-le, drop-at}
+use lib.Seq.{paste, take-paste, take-length, length-paste, length-take-le, drop-at}
 use Rattle.octets.specs.Blocks.{blockCount, overBlocks}
 use Rattle.octets.specs.Xor.{xor}
 use Rattle.octets.proofs.BlockLaws.{over-append}
@@ -31,7 +31,7 @@ module _ (E : List ℕ → List ℕ) where
   chain-append : (y a b : List ℕ) (n k : ℕ) → length a ≡ 16 * n → over y (a ++ b) (n + k) ≡ over (over y a n) b k
   chain-append y a b n k e = over-append (λ y x. E (xor y x)) y a b n k e
 
-  chain-front : (y a b : List ℕ) (n : ℕ) → length a ≡ 16 * n → over y (a ++ b) n ≡ over y a n
+  pub chain-front : (y a b : List ℕ) (n : ℕ) → length a ≡ 16 * n → over y (a ++ b) n ≡ over y a n
   unfolding overBlocks
   chain-front y a b n e = ap (over y (a ++ b)) (sym (add-zero n)) ∙ chain-append y a b n 0 e
 
@@ -58,9 +58,9 @@ module _ (E : List ℕ → List ℕ) where
         chained = s .chained ∙ ap (λ (x : List ℕ). over zeros x n) j ∙ chain-front zeros (take (16 * n) m) (drop (16 * n) m) n l;
       }
 
-  running-of : {chain buffer : List ℕ} {filled : ℕ} {m : List ℕ} → Cut chain (take filled buffer) m → filled ≡ length (take filled buffer)
-      → Running E chain buffer filled m
-  running-of {chain} {buffer} {filled} {m} c e =
+  running-of : {chain buffer : List ℕ} {filled : ℕ} {m : List ℕ} → Cut chain (take filled buffer) m → length buffer ≡ 16
+      → filled ≡ length (take filled buffer) → Running E chain buffer filled m
+  running-of {chain} {buffer} {filled} {m} c size e =
       let part = take filled buffer in
       let there : drop (16 * blocksBefore (length m)) m ≡ part =
       ap (λ (k : ℕ). drop (16 * k) m) (sym (c .number)) ∙ ap (drop (16 * c .n)) (c .joined) ∙ drop-at (c .whole) part (16 * c .n) (c .size) in
@@ -69,13 +69,14 @@ module _ (E : List ℕ → List ℕ) where
             c .chained
             ∙ sym (chain-front zeros (c .whole) part (c .n) (c .size))
             ∙ ap₂ (λ (x : List ℕ) (k : ℕ). over zeros x k) (sym (c .joined)) (c .number);
+        room = size;
         waits = sym there;
         count = e ∙ ap length (sym there);
       }
 
-  pub running-start : (buffer : List ℕ) → Running E zeros buffer 0 []
+  pub running-start : (buffer : List ℕ) → length buffer ≡ 16 → Running E zeros buffer 0 []
   unfolding overBlocks
-  running-start buffer = record { chained = refl; waits = refl; count = refl }
+  running-start buffer size = record { chained = refl; room = size; waits = refl; count = refl }
 
   -- how many bytes wait: none only where there was none
   filled-fits : {chain buffer m : List ℕ} {filled : ℕ} → Running E chain buffer filled m → filled ≤ 16
@@ -87,7 +88,10 @@ module _ (E : List ℕ → List ℕ) where
       let same : filled ≡ n = omega (arith, filled-fits s) in
       subst (λ (k : ℕ). Running E chain buffer k m) same s
 
-  module _ {chain buffer m : List ℕ} {filled : ℕ} (s : Running E chain buffer filled m) (room : length buffer ≡ 16) (x : List ℕ) where
+  module _ {chain buffer m : List ℕ} {filled : ℕ} (s : Running E chain buffer filled m) (x : List ℕ) where
+    room : length buffer ≡ 16
+    room = s .room
+
     abbrev part : List ℕ
     part = take filled buffer
 
@@ -103,7 +107,8 @@ module _ (E : List ℕ → List ℕ) where
     running-within fits buffer′ e =
         let c = cut-of s in
         let now : take (filled + length x) buffer′ ≡ part ++ x =
-        ap (take (filled + length x)) e ∙ filled-with buffer x filled (omega arith) in
+        ap (take (filled + length x)) e ∙ filled-with buffer x filled (omega (arith, room)) in
+        let size : length buffer′ ≡ 16 = ap length e ∙ length-paste buffer filled x (length x) (omega (arith, room)) (le-refl (length x)) ∙ room in
         let cut : Cut chain (part ++ x) (m ++ x) =
         record {
           n = c .n;
@@ -114,7 +119,7 @@ module _ (E : List ℕ → List ℕ) where
           chained = c .chained;
         } in
         let l : filled + length x ≡ length (part ++ x) = sym (length-append part x ∙ ap (λ (k : ℕ). k + length x) part-length) in
-        running-of (subst (λ (p : List ℕ). Cut chain p (m ++ x)) (sym now) cut) (l ∙ ap length (sym now))
+        running-of (subst (λ (p : List ℕ). Cut chain p (m ++ x)) (sym now) cut) size (l ∙ ap length (sym now))
 
     -- a piece that goes beyond it: x₁ fills the block, then the blocks of the rest x₂ before its last, and x₃ which waits
     pub running-beyond : {buffer₁ buffer₂ first next : List ℕ}
@@ -144,7 +149,7 @@ module _ (E : List ℕ → List ℕ) where
         let ly : length y ≡ w = length-take-le w x₂ (omega arith) in
         let l₃ : length x₃ ≡ length x₂ - w = ap length d₃ ∙ length-drop w x₂ in
         -- the block that the buffer holds, and those of y
-        let f₁ : buffer₁ ≡ part ++ x₁ = e₁ ∙ paste-all buffer filled x₁ (omega arith) in
+        let f₁ : buffer₁ ≡ part ++ x₁ = e₁ ∙ paste-all buffer filled x₁ (omega (arith, room)) in
         let lb : length buffer₁ ≡ 16 = ap length f₁ ∙ length-append part x₁ ∙ omega (arith, part-length) in
         let front : List ℕ = c .whole ++ buffer₁ in
         let lf : length front ≡ 16 * (c .n + 1) = length-append (c .whole) buffer₁ ∙ omega (arith, c .size) in
@@ -159,6 +164,7 @@ module _ (E : List ℕ → List ℕ) where
         let there : length x₂ - w ≡ 0 + length x₃ = omega arith in
         let now : take (length x₂ - w) buffer₂ ≡ x₃ =
         ap₂ take there e₂ ∙ filled-with buffer₁ x₃ 0 (omega arith) in
+        let size : length buffer₂ ≡ 16 = ap length e₂ ∙ length-paste buffer₁ 0 x₃ (length x₃) (omega arith) (le-refl (length x₃)) ∙ lb in
         let j : m ++ x ≡ (front ++ y) ++ x₃ =
         ap₂ _++_ (c .joined) (sym (take-append-drop r x))
         ∙ append-assoc (c .whole) part (x₁ ++ drop r x)
@@ -175,18 +181,17 @@ module _ (E : List ℕ → List ℕ) where
           number = let l = length-append m x in let i = c .number in omega (arith, size-of);
           chained = v₂;
         } in
-        running-of (subst (λ (p : List ℕ). Cut next p (m ++ x)) (sym now) cut) (sym l₃ ∙ ap length (sym now))
+        running-of (subst (λ (p : List ℕ). Cut next p (m ++ x)) (sym now) cut) size (sym l₃ ∙ ap length (sym now))
 
   -- the last block
-  pub running-end : {chain buffer m : List ℕ} {filled : ℕ} → Running E chain buffer filled m → (last r : List ℕ)
-      → last ≡ lastBlock E (take filled buffer) → length last ≡ 16 → r ≡ over chain last (blockCount (length last)) → r ≡ cmac E m
+  pub running-end : {chain buffer m : List ℕ} {filled : ℕ} → Running E chain buffer filled m → (r : List ℕ)
+      → r ≡ over chain (lastBlock E (take filled buffer)) 1 → r ≡ cmac E m
   unfolding cmac
-  running-end {chain} {buffer} {m} {filled} s last r el ll er =
+  running-end {chain} {buffer} {m} {filled} s r er =
       let n = blocksBefore (length m) in
       let l : length (take (16 * n) m) ≡ 16 * n = length-take-le (16 * n) m (omega arith) in
       let v : chain ≡ over zeros (take (16 * n) m) n =
       s .chained ∙ ap (λ (x : List ℕ). over zeros x n) (sym (take-append-drop (16 * n) m)) ∙ chain-front zeros (take (16 * n) m) (drop (16 * n) m) n l in
       er
-      ∙ ap₂ (λ (a b : List ℕ). over a b (blockCount (length last))) v (el ∙ ap (lastBlock E) (s .waits))
-      ∙ ap (λ (k : ℕ). over (over zeros (take (16 * n) m) n) (lastBlock E (drop (16 * n) m)) (blockCount k)) ll
+      ∙ ap₂ (λ (a b : List ℕ). over a (lastBlock E b) 1) v (s .waits)
       ∙ sym (chain-append zeros (take (16 * n) m) (lastBlock E (drop (16 * n) m)) n 1 l)

@@ -6,12 +6,10 @@ use blocks::at_most;
 use last::last_block;
 use runs::copy;
 ghost use mathlib.Core.Path.{_≡_};
-ghost use mathlib.Core.List.{List, _++_};
-ghost use Prim.Native.Nat.{ℕ};
 ghost use Rattle.aes.specs.Tables.{SubMixTable};
 ghost use Rattle.aes.specs.BlockCipher.{blockCipher};
 ghost use Rattle.cmac.specs.Cmac as spec;
-ghost use Rattle.cmac.specs.Running.{Holds, nothingTaken};
+ghost use Rattle.cmac.specs.Running.{nothingTaken, updated, finished};
 
 // A code under way: the chain over the blocks before the last, and the last one, of which so many bytes are there. The round keys and the
 // table of the cipher are lent to each call.
@@ -35,10 +33,10 @@ impl Mac {
         }
     }
 
-    // The piece follows what was taken in, wherever the cut falls.
+    // The piece follows what was taken in, wherever the cut falls: from a state that holds m to one that holds m and the piece.
     pub fn update(self, t: &[u32; 256], keys: [[u8; 16]; 11], piece: &[u8]) -> Mac
         requires { ⌜ SubMixTable (now t) ⌝ }
-        ensures { λ r. ⌜ ((m : List ℕ) → Holds self (blockCipher keys) m → Holds r (blockCipher keys) (m ++ now (piece .entry))) ⌝ }
+        ensures { λ r. ⌜ r ≡ updated (blockCipher keys) self (now (piece .entry)) ⌝ }
     {
         let n = at_most(self.filled as usize, 16);
         let chain = self.chain;
@@ -65,9 +63,10 @@ impl Mac {
         }
     }
 
+    // The code of what the state holds.
     pub fn finish(self, t: &[u32; 256], keys: [[u8; 16]; 11]) -> [u8; 16]
         requires { ⌜ SubMixTable (now t) ⌝ }
-        ensures { λ r. ⌜ ((m : List ℕ) → Holds self (blockCipher keys) m → r ≡ spec.cmac (blockCipher keys) m) ⌝ }
+        ensures { λ r. ⌜ r ≡ finished (blockCipher keys) self ⌝ }
     {
         let n = at_most(self.filled as usize, 16);
         let chain = self.chain;

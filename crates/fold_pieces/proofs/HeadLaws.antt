@@ -8,10 +8,15 @@ use native.Mathlib.Nat.{le-refl}
 use native.Mathlib.Omega.{arith}
 use borrow.Author.Tests.{leb-true, leb-false}
 use lib.Dec.{leb}
-use lib.ListN.{length, take, length-append}
+use lib.ListN.{length, take, length-append, length-take}
 use lib.Seq.{paste, paste-zero, take-all, take-length, take-paste, length-paste, take-append-le, take-append-add, length-take-le, take-take}
 use Rattle.octets.specs.Numbers.{bytesAt, littleEndian}
 use Rattle.protocol.specs.Bytes.{numberAt}
+use Rattle.fold_pieces.specs.State.{headWith}
+
+-- the front of p that fits copied behind the first i bytes
+abbrev frontAt : List ℕ → List ℕ → ℕ → List ℕ
+frontAt head p i = paste head i (take (12 - i) p) (length (take (12 - i) p))
 
 module _ (head m p : List ℕ) (j : ℕ) (room : length head ≡ 12) (counted : j ≡ length m) (kept : take j head ≡ take 12 m) where
   -- they are there already
@@ -47,28 +52,55 @@ module _ (head m p : List ℕ) (j : ℕ) (room : length head ≡ 12) (counted : 
       ∙ ap (λ (k : ℕ). take k (m ++ p)) whole
 
   -- what of the piece is among them is copied behind those that are there
-  pub kept-with : (at n : ℕ) (after : List ℕ) → at ≡ min j 12 → n ≡ min (length p) (12 - at) → after ≡ paste head at (take n p) (length (take n p))
-      → take (j + length p) after ≡ take 12 (m ++ p)
-  kept-with at n after ea en e = go (leb j 12) (leb (length p) (12 - j)) refl refl
+  pub kept-with : take (j + length p) (headWith head j p) ≡ take 12 (m ++ p)
+  unfolding headWith
+  kept-with = go (leb j 12) (leb (length p) (12 - j)) refl refl
     where
-      go : (a b : Bool) → leb j 12 ≡ a → leb (length p) (12 - j) ≡ b → take (j + length p) after ≡ take 12 (m ++ p)
+      go : (a b : Bool) → leb j 12 ≡ a → leb (length p) (12 - j) ≡ b → take (j + length p) (frontAt head p (min j 12)) ≡ take 12 (m ++ p)
       go true true ha hb =
           let hj = leb-true j 12 ha in
           let hp = leb-true (length p) (12 - j) hb in
-          let ej : at ≡ j = omega (arith, ea) in
-          let q : take n p ≡ p = take-all n p (omega (arith, en, ej)) in
-          keep-less after (omega (arith, hj, hp)) (e ∙ ap₂ (λ (i : ℕ) (x : List ℕ). paste head i x (length x)) ej q)
+          let ej : min j 12 ≡ j = omega (arith, hj) in
+          keep-less _ (omega (arith, hj, hp)) (ap (frontAt head p) ej ∙ ap (λ (x : List ℕ). paste head j x (length x)) (take-all (12 - j) p hp))
       go true false ha hb =
           let hj = leb-true j 12 ha in
           let hp = leb-false (length p) (12 - j) hb in
-          let ej : at ≡ j = omega (arith, ea) in
-          let eq : n ≡ 12 - j = omega (arith, en, ej, hp) in
-          keep-part (take n p) after hj (omega (arith, hp)) (ap (λ (k : ℕ). take k p) eq) (e ∙ ap (λ (i : ℕ). paste head i (take n p) (length (take n p))) ej)
+          let ej : min j 12 ≡ j = omega (arith, hj) in
+          keep-part (take (12 - j) p) _ hj (omega (arith, hp)) refl (ap (frontAt head p) ej)
       go false b ha hb =
           let hj = leb-false j 12 ha in
-          let eq : n ≡ 0 = omega (arith, ea, en) in
-          let same : after ≡ head = e ∙ ap (λ (k : ℕ). paste head at (take k p) (length (take k p))) eq ∙ sym (paste-zero head at []) in
-          ap (take (j + length p)) same ∙ keep-whole (omega (arith, hj))
+          let ej : min j 12 ≡ 12 = omega (arith, hj) in
+          ap (take (j + length p)) (ap (frontAt head p) ej ∙ sym (paste-zero head 12 [])) ∙ keep-whole (omega (arith, hj))
+
+-- they stay twelve
+pub head-length : (head p : List ℕ) (j : ℕ) → length head ≡ 12 → length (headWith head j p) ≡ 12
+unfolding headWith
+head-length head p j l =
+    let q : List ℕ = take (12 - min j 12) p in
+    let n = length-take (12 - min j 12) p in
+    length-paste head (min j 12) q (length q) (omega (arith, l, n)) (le-refl (length q)) ∙ l
+
+-- the code counts first what of the piece fits
+fitting : (k : ℕ) (p : List ℕ) → take (min (length p) k) p ≡ take k p
+fitting k p = go (leb (length p) k) refl
+  where
+    go : (b : Bool) → leb (length p) k ≡ b → take (min (length p) k) p ≡ take k p
+    go true e =
+        let h = leb-true (length p) k e in
+        let n : min (length p) k ≡ length p = omega (arith, h) in
+        ap (λ (i : ℕ). take i p) n ∙ take-length p ∙ sym (take-all k p h)
+    go false e =
+        let h = leb-false (length p) k e in
+        let n : min (length p) k ≡ k = omega (arith, h) in
+        ap (λ (i : ℕ). take i p) n
+
+pub head-is : (head p : List ℕ) (j : ℕ) {after : List ℕ} {at n : ℕ} → at ≡ min j 12 → n ≡ min (length p) (12 - at)
+    → after ≡ paste head at (take n p) (length (take n p)) → after ≡ headWith head j p
+unfolding headWith
+head-is head p j {after} {at} {n} ea en e =
+    e
+    ∙ ap (λ (x : List ℕ). paste head at x (length x)) (ap (λ (i : ℕ). take i p) en ∙ fitting (12 - at) p)
+    ∙ ap (frontAt head p) ea
 
 -- a part that lies in the first k bytes
 part-kept : (k p n : ℕ) (m : List ℕ) → p + n ≤ k → bytesAt p n (take k m) ≡ bytesAt p n m

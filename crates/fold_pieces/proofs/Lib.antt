@@ -1,3 +1,4 @@
 pub mod HeadLaws
 pub mod StateLaws
 pub mod FinishLaws
+pub mod InCalls

@@ -1,14 +1,17 @@
--- What a state that stands for a message answers, by the way out that the code takes, and what the state after it stands for.
+-- What a begin and a piece hand back, by the way out that the code takes; and what the state that they hand back stands for.
 -- Assumes nothing.
-use mathlib.Core.Path.{_≡_, refl, sym, ap, subst, _∙_}
+use mathlib.Core.Path.{_≡_, refl, sym, ap, ap₂, _∙_}
 use mathlib.Core.Logic.{_≢_}
 use mathlib.Core.Bool.{Bool, true, false, cond, not, _&&_, true≢false}
-use mathlib.Core.List.{List, [], _++_, append-assoc}
+use mathlib.Core.List.{List, [], _++_, append-assoc, append-nil}
 use Prim.Native.Nat.{ℕ, _+_}
-use borrow.Author.Tests.{eq-eqb, ne-eqb}
-use lib.Dec.{leb}
-use lib.ListN.{length, take, length-append}
-use Rattle.sha512.specs.Code.{Holds}
+use borrow.Author.Tests.{eq-eqb, ne-eqb, eqb-true}
+use lib.Dec.{eqb, leb}
+use lib.ListN.{length, take, replicate, length-append}
+use Rattle.sha512.specs.declared.Sha512.{Sha512}
+use Rattle.sha512.specs.Code.{nothingTaken, updated}
+use Rattle.sha512.proofs.Beginning.{nothing-holds}
+use Rattle.sha512.proofs.AnyState.{updated-holds}
 use Rattle.protocol.specs.Bytes.{Bytes}
 use Rattle.protocol.specs.Answer.{done, refused, answerNumber, whenDone}
 use Rattle.protocol.specs.Connection.{longestMessage}
@@ -18,17 +21,62 @@ use Rattle.protocol.specs.Calls.{foldBeginning, foldPiece, Lent, onlyUnderway, 
 use Rattle.protocol.specs.Suite.{suite}
 use Rattle.connection.specs.Reading.{flag}
 use Rattle.fold_pieces.specs.declared.FoldState.{FoldState}
-use Rattle.fold_pieces.specs.State.{Hashes, StandsFor, noMessage, stepWith, takes, ends}
-use Rattle.fold_pieces.specs.Contracts.{HandsOn, Begins, AnyPiece}
+use Rattle.fold_pieces.specs.declared.FoldStep.{FoldStep}
+use Rattle.fold_pieces.specs.State.{Hashes, StandsFor, noMessage, begunOn, joinedBy, headWith, stepWith, takes, ends}
+use Rattle.fold_pieces.specs.Contracts.{beginStep, pieceStep, HandsOn}
+use Rattle.fold_pieces.proofs.HeadLaws.{kept-with, head-length}
 
--- no message: what the hash holds does not count
+-- ---- by the way out that the code takes
+
+module _ (v : Bytes) where
+  abbrev begunIf : Bool → FoldStep
+  begunIf fits = cond fits (stepWith (begunOn v) 0) (stepWith noMessage 40)
+
+  pub begin-refused : {s : FoldState} {r : FoldStep} → length v ≢ 64 → s ≡ noMessage → r ≡ stepWith s 40 → r ≡ beginStep v
+  unfolding beginStep
+  begin-refused h es er = er ∙ ap (λ (x : FoldState). stepWith x 40) es ∙ sym (ap begunIf (ne-eqb (length v) 64 h))
+
+  abbrev fresh : Sha512 → FoldState
+  fresh h = record { hash = h; joined = 0; head = replicate 12 0; underway = 1; spare = replicate 3 0 }
+
+  pub begin-done : {h : Sha512} {r : FoldStep} → length v ≡ 64 → h ≡ updated nothingTaken v → r ≡ stepWith (fresh h) 0 → r ≡ beginStep v
+  unfolding beginStep begunOn
+  begin-done l eh er = er ∙ ap (λ (x : Sha512). stepWith (fresh x) 0) eh ∙ sym (ap begunIf (eq-eqb (length v) 64 l))
+
+module _ (s : FoldState) (p : Bytes) where
+  abbrev takenIf : Bool → FoldStep
+  takenIf fits = cond fits (stepWith (joinedBy s p) 0) (stepWith s 23)
+
+  pub piece-refused : {r : FoldStep} → takes s (length p) ≡ false → r ≡ stepWith s 23 → r ≡ pieceStep s p
+  unfolding pieceStep
+  piece-refused e er = er ∙ sym (ap takenIf e)
+
+  abbrev after : Sha512 → List ℕ → FoldState
+  after h head = record { hash = h; joined = s .joined + length p; head = head; underway = s .underway; spare = s .spare }
+
+  pub piece-taken : {h : Sha512} {head : List ℕ} {r : FoldStep} → takes s (length p) ≡ true → h ≡ updated (s .hash) p
+      → head ≡ headWith (s .head) (s .joined) p → r ≡ stepWith (after h head) 0 → r ≡ pieceStep s p
+  unfolding pieceStep joinedBy
+  piece-taken e eh ed er = er ∙ ap₂ (λ (x : Sha512) (d : List ℕ). stepWith (after x d) 0) eh ed ∙ sym (ap takenIf e)
+
+-- ---- what a begin hands back stands for a message, or for none
+
+-- what the hash holds does not count
 pub no-message : StandsFor noMessage notBegun
 unfolding noMessage
 no-message = record { same-begun = refl; hashes = λ b. absurd (true≢false (sym b)) }
 
--- ---- beginning
-
 module _ (v : Bytes) where
+  begun-stands : length v ≡ 64 → StandsFor (begunOn v) (begunFrom v)
+  unfolding begunOn
+  begun-stands l =
+      record {
+        same-begun = refl;
+        hashes = λ b.
+            let taken = updated-holds nothingTaken [] v nothing-holds in
+            record { hashed = rw (append-nil v) taken; started = l; counted = refl; room = refl; headed = refl };
+      }
+
   abbrev lent : Lent
   lent = onlyUnderway notBegun
 
@@ -39,31 +87,18 @@ module _ (v : Bytes) where
   abbrev numberIf : Bool → ℕ
   numberIf fits = answerNumber (cond (not fits) (refused 40) (done 0))
 
-  pub begin-refused : (s : FoldState) → length v ≢ 64 → s ≡ noMessage → Begins v (stepWith s 40)
-  unfolding tests
-  begin-refused s h e =
-      let b = sym (ne-eqb (length v) 64 h) in
-      let stands : StandsFor s notBegun = subst (λ (x : FoldState). StandsFor x notBegun) (sym e) no-message in
-      record { made = record { number = ap numberIf b; mark = refl; stands = rw (← ap underwayIf b) stands }; refused = λ d. e }
-
-  pub begin-done : (s : FoldState) → length v ≡ 64 → flag (s .underway) ≡ true → Hashes s (begunFrom v)
-      → Begins v (stepWith s 0)
-  unfolding tests effect
-  begin-done s l f h =
-      let b = sym (eq-eqb (length v) 64 l) in
-      record {
-        made = record { number = ap numberIf b; mark = refl; stands = rw (← ap underwayIf b) (record { same-begun = f; hashes = λ e. h }) };
-        refused = λ d. absurd (d l);
-      }
-
--- ---- a piece, with any bytes for a state
-
-module _ (s : FoldState) (p : Bytes) where
-  pub any-refused : takes s (length p) ≡ false → AnyPiece s p (stepWith s 23)
-  any-refused e = record { number = ap (λ (b : Bool). cond b 0 23) (sym e); mark = refl; leaves = λ t. refl }
-
-  pub any-taken : (s′ : FoldState) → takes s (length p) ≡ true → AnyPiece s p (stepWith s′ 0)
-  any-taken s′ e = record { number = ap (λ (b : Bool). cond b 0 23) (sym e); mark = refl; leaves = λ t. absurd (true≢false (sym e ∙ t)) }
+  pub begin-hands-on : HandsOn (foldBeginning v) notBegun (beginStep v)
+  unfolding beginStep tests effect
+  begin-hands-on = go (eqb (length v) 64) refl
+    where
+      go : (b : Bool) → eqb (length v) 64 ≡ b → HandsOn (foldBeginning v) notBegun (begunIf v b)
+      go true e =
+          record {
+            number = ap numberIf (sym e);
+            mark = refl;
+            stands = rw (← ap underwayIf (sym e)) (begun-stands (eqb-true (length v) 64 e));
+          }
+      go false e = record { number = ap numberIf (sym e); mark = refl; stands = rw (← ap underwayIf (sym e)) no-message }
 
 -- ---- a state that stands for a message tests what the call tests
 
@@ -86,9 +121,24 @@ module _ (s : FoldState) (u : Underway) (h : StandsFor s u) where
       go true = refl
       go false = refl
 
-  -- ---- a piece
+  -- ---- and after a piece it stands for the message with it
 
   module _ (p : Bytes) where
+    joined-stands : StandsFor (joinedBy s p) (withPiece p u)
+    unfolding joinedBy withPiece
+    joined-stands = record { same-begun = h .same-begun; hashes = hashes }
+      where
+        hashes : u .begun ≡ true → Hashes (joinedBy s p) (withPiece p u)
+        hashes t =
+            let k = h .hashes t in
+            record {
+              hashed = rw (← append-assoc (u .start) (u .joined) p) (updated-holds (s .hash) (u .start ++ u .joined) p (k .hashed));
+              started = k .started;
+              counted = ap (λ (n : ℕ). n + length p) (k .counted) ∙ sym (length-append (u .joined) p);
+              room = head-length (s .head) p (s .joined) (k .room);
+              headed = kept-with (s .head) (u .joined) p (s .joined) (k .room) (k .counted) (k .headed);
+            }
+
     -- by whether it fits
     abbrev afterIf : Bool → Underway
     afterIf fits =
@@ -97,32 +147,14 @@ module _ (s : FoldState) (u : Underway) (h : StandsFor s u) where
     abbrev pieceNumberIf : Bool → ℕ
     pieceNumberIf fits = answerNumber (cond (not fits) (refused 23) (done 0))
 
-    pub piece-refused : takes s (length p) ≡ false → HandsOn (foldPiece p) u (stepWith s 23)
-    unfolding tests
-    piece-refused e =
-        let b = sym e ∙ takes-is p in
-        record { number = ap pieceNumberIf b; mark = refl; stands = rw (← ap afterIf b) h }
-
-    pub piece-taken : (s′ : FoldState) → takes s (length p) ≡ true → s′ .underway ≡ s .underway
-        → ((m : List ℕ) → Holds (s .hash) m → Holds (s′ .hash) (m ++ p))
-        → s′ .joined ≡ s .joined + length p
-        → ((m : List ℕ) → s .joined ≡ length m → take (s .joined) (s .head) ≡ take 12 m → take (s .joined + length p) (s′ .head) ≡ take 12 (m ++ p))
-        → HandsOn (foldPiece p) u (stepWith s′ 0)
-    unfolding tests effect withPiece
-    piece-taken s′ e same hash joined head =
-        let b = sym e ∙ takes-is p in
-        record {
-          number = ap pieceNumberIf b;
-          mark = refl;
-          stands = rw (← ap afterIf b) (record { same-begun = ap flag same ∙ h .same-begun; hashes = hashes });
-        }
+    pub piece-hands-on : HandsOn (foldPiece p) u (pieceStep s p)
+    unfolding pieceStep tests effect
+    piece-hands-on = go (takes s (length p)) refl
       where
-        hashes : u .begun ≡ true → Hashes s′ (withPiece p u)
-        hashes t =
-            let k = h .hashes t in
-            record {
-              hashed = rw (← append-assoc (u .start) (u .joined) p) (hash (u .start ++ u .joined) (k .hashed));
-              started = k .started;
-              counted = joined ∙ ap (λ (n : ℕ). n + length p) (k .counted) ∙ sym (length-append (u .joined) p);
-              headed = ap (λ (n : ℕ). take n (s′ .head)) joined ∙ head (u .joined) (k .counted) (k .headed);
-            }
+        go : (b : Bool) → takes s (length p) ≡ b → HandsOn (foldPiece p) u (takenIf s p b)
+        go true e =
+            let b = sym e ∙ takes-is p in
+            record { number = ap pieceNumberIf b; mark = refl; stands = rw (← ap afterIf b) joined-stands }
+        go false e =
+            let b = sym e ∙ takes-is p in
+            record { number = ap pieceNumberIf b; mark = refl; stands = rw (← ap afterIf b) h }

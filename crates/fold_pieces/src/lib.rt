@@ -5,15 +5,10 @@ use runs::copy;
 use sha512::Sha512;
 ghost use mathlib.Core.Path.{_≡_};
 ghost use mathlib.Core.Bool.{true};
-ghost use mathlib.Core.List.{List, _++_};
-ghost use Prim.Native.Nat.{ℕ, _+_};
-ghost use lib.ListN.{length, take};
-ghost use Rattle.protocol.specs.Preauth.{negotiateMessage, setupRequest, setupResponse, moreProcessing};
-ghost use Rattle.protocol.specs.Pieces.{Underway};
-ghost use Rattle.protocol.specs.Calls.{foldPiece};
+ghost use Rattle.protocol.specs.Preauth.{moreProcessing};
 ghost use Rattle.answer.specs.Reading.{answerOf};
-ghost use Rattle.fold_pieces.specs.State.{StandsFor, noMessage, stepWith, endedWith};
-ghost use Rattle.fold_pieces.specs.Contracts.{HandsOn, Begins, AnyPiece, Closes, AnyFinish, Finishes};
+ghost use Rattle.fold_pieces.specs.State.{noMessage, headWith, stepWith};
+ghost use Rattle.fold_pieces.specs.Contracts.{beginStep, pieceStep, endAnswer, endedWith, endValue, Ends};
 
 // struct smb3seal_fold_state: the hash of the value begun from and of the bytes joined so far, how many these are, and the first twelve of
 // them, which end with the status. Any bytes are a state; no message is under way where `underway` is 0.
@@ -60,7 +55,7 @@ fn step(state: FoldState, number: u32) -> FoldStep
 
 // A message begins from the chain value.
 pub fn begin(chain: &[u8]) -> FoldStep
-    ensures { λ r. ⌜ Begins (now (chain .entry)) r ⌝ }
+    ensures { λ r. ⌜ r ≡ beginStep (now (chain .entry)) ⌝ }
 {
     if chain.len() != 64 {
         return step(ended(), 40);
@@ -77,8 +72,7 @@ pub fn begin(chain: &[u8]) -> FoldStep
 
 // The first twelve bytes of what is joined, with the piece behind it.
 fn head_with(head: [u8; 12], joined: u64, piece: &[u8]) -> [u8; 12]
-    ensures { λ r. ⌜ ((m : List ℕ) → joined ≡ length m → take joined head ≡ take 12 m
-        → take (joined + length (now (piece .entry))) r ≡ take 12 (m ++ now (piece .entry))) ⌝ }
+    ensures { λ r. ⌜ r ≡ headWith head joined (now (piece .entry)) ⌝ }
 {
     let mut kept = head;
     let at = at_most(joined as usize, 12);
@@ -90,8 +84,7 @@ fn head_with(head: [u8; 12], joined: u64, piece: &[u8]) -> [u8; 12]
 impl FoldState {
     // The piece follows what is joined, unless it would pass the limit: then the state stays as it is.
     pub fn piece(self, piece: &[u8]) -> FoldStep
-        ensures { λ r. ⌜ AnyPiece self (now (piece .entry)) r
-            × ((u : Underway) → StandsFor self u → HandsOn (foldPiece (now (piece .entry))) u r) ⌝ }
+        ensures { λ r. ⌜ r ≡ pieceStep self (now (piece .entry)) ⌝ }
     {
         let joined = self.joined;
         if !((self.underway != 0) & connection::fits(joined, piece.len())) {
@@ -112,7 +105,7 @@ impl FoldState {
 
     // One fold of what is joined, if its status allows it. The status of a message that 23 refuses counts for nothing.
     fn close(self, chain: &mut [u8], allowed: bool) -> Answer
-        ensures { λ r. ⌜ Closes self allowed (now (chain .entry)) (answerOf r) (now (chain .exit)) ⌝ }
+        ensures { λ r. ⌜ (answerOf r ≡ endAnswer self allowed (now (chain .entry))) × (now (chain .exit) ≡ endValue self allowed (now (chain .entry))) ⌝ }
     {
         if chain.len() != 64 {
             return Answer::Refused(40);
@@ -131,17 +124,14 @@ impl FoldState {
 
     // A negotiate message or a session setup request: always folded.
     pub fn finish(self, chain: &mut [u8]) -> FoldStep
-        ensures { λ r. ⌜ AnyFinish self true (now (chain .entry)) r (now (chain .exit))
-            × (((u : Underway) → StandsFor self u → Finishes negotiateMessage u (now (chain .entry)) r (now (chain .exit)))
-            × ((u : Underway) → StandsFor self u → Finishes setupRequest u (now (chain .entry)) r (now (chain .exit)))) ⌝ }
+        ensures { λ r. ⌜ Ends self true (now (chain .entry)) r (now (chain .exit)) ⌝ }
     {
         finished(self.close(chain, true))
     }
 
     // A session setup response: folded only if its status, which is read from what is joined, asks for more.
     pub fn finish_response(self, chain: &mut [u8]) -> FoldStep
-        ensures { λ r. ⌜ AnyFinish self (moreProcessing (self .head)) (now (chain .entry)) r (now (chain .exit))
-            × ((u : Underway) → StandsFor self u → Finishes setupResponse u (now (chain .entry)) r (now (chain .exit))) ⌝ }
+        ensures { λ r. ⌜ Ends self (moreProcessing (self .head)) (now (chain .entry)) r (now (chain .exit)) ⌝ }
     {
         let head = self.head;
         let allowed = preauth::asks_for_more(&head);

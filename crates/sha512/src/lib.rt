@@ -9,12 +9,9 @@ use sha512_compression::constants::initial_hash_value;
 use sha512_compression::hash_blocks;
 use std::num::wrapping_add_u64;
 ghost use mathlib.Core.Path.{_≡_};
-ghost use mathlib.Core.List.{List, _++_};
-ghost use Prim.Native.Nat.{ℕ, _<_, _^_};
-ghost use lib.ListN.{length};
 ghost use Rattle.sha2.specs.Sha2 as sha2;
 ghost use Rattle.sha2.specs.Sha512.{sha512};
-ghost use Rattle.sha512.specs.Code.{Holds, nothingTaken};
+ghost use Rattle.sha512.specs.Code.{nothingTaken, updated, finished};
 
 // A hash under way: the hash value after the whole blocks, the bytes past them, and how many bytes there were, modulo 2^64.
 #[repr(C)]
@@ -38,9 +35,9 @@ impl Sha512 {
         }
     }
 
-    // The piece follows what was taken in, wherever the cut falls.
+    // The piece follows what was taken in, wherever the cut falls: from a state that holds m to one that holds m and the piece.
     pub fn update(self, piece: &[u8]) -> Sha512
-        ensures { λ r. ⌜ ((m : List ℕ) → Holds self m → Holds r (m ++ now (piece .entry))) ⌝ }
+        ensures { λ r. ⌜ r ≡ updated self (now (piece .entry)) ⌝ }
     {
         let n = (self.count % 128) as usize;
         let count = wrapping_add_u64(self.count, piece.len() as u64);
@@ -67,9 +64,9 @@ impl Sha512 {
         }
     }
 
-    // For a message below 2^64 bytes, which is what the count holds; §1 allows 2^128 bits.
+    // The hash of what the state holds, of a message below 2^64 bytes, which is what the count holds; §1 allows 2^128 bits.
     pub fn finish(self) -> [u8; 64]
-        ensures { λ r. ⌜ ((m : List ℕ) → length m < 2 ^ 64 → Holds self m → r ≡ sha2.hash sha512 m) ⌝ }
+        ensures { λ r. ⌜ r ≡ finished self ⌝ }
     {
         let count = self.count;
         let hash = self.hash;

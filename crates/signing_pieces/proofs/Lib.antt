@@ -1,3 +1,5 @@
 pub mod Limit
+pub mod CodeLaws
 pub mod StateLaws
 pub mod PieceLaws
+pub mod InCalls

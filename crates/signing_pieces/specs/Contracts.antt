@@ -1,11 +1,11 @@
--- What the functions promise. Of a state that stands for a message: what its call answers and leaves. Of any other bytes, which the papers
--- leave free: the number as far as the joined bytes decide it, that a refusal changes nothing, and which state a finish hands back.
+-- What the functions promise of any state: every byte of what is handed back and left. And what that is of a state that stands for a message, as
+-- calls make them: what its call answers and leaves.
 -- Assumes nothing.
 use mathlib.Core.Path.{_≡_}
-use mathlib.Core.Logic.{_≢_}
-use mathlib.Core.Bool.{false, cond, not}
+use mathlib.Core.Bool.{cond, not}
+use Prim.Native.Nat.{ℕ, _<_}
 use lib.Dec.{eqb}
-use lib.ListN.{length}
+use lib.ListN.{length, getD}
 use Rattle.protocol.specs.Bytes.{Bytes}
 use Rattle.protocol.specs.Answer.{answerNumber}
 use Rattle.protocol.specs.Pieces.{Underway, notBegun}
@@ -14,36 +14,46 @@ use Rattle.protocol.specs.Contract.{Returns}
 use Rattle.protocol.specs.Suite.{suite}
 use Rattle.signing_pieces.specs.declared.SignState.{SignState}
 use Rattle.signing_pieces.specs.declared.SignStep.{SignStep}
-use Rattle.signing_pieces.specs.Running.{takes, joinedNumber, StandsFor, noMessage}
+use Rattle.signing_pieces.specs.Running.{takes, begunUnder, joinedBy, joinedElse, signatureFrom, comparedNumber, StandsFor, noMessage, stepWith}
 
--- a call that is handed what stands for u answers, and hands the state on
+-- ---- any state
+
+-- what a begin under the key hands back
+unfoldable pub beginStep : Bytes → SignStep
+beginStep key = cond (eqb (length key) 16) (stepWith (begunUnder key) 0) (stepWith noMessage 40)
+
+-- what the piece p hands back
+unfoldable pub pieceStep : SignState → Bytes → SignStep
+pieceStep s p = cond (takes s (length p)) (stepWith (joinedBy s p) 0) (stepWith s 3)
+
+-- signing: the number, and what the place for the signature holds afterwards
+unfoldable pub signNumber : SignState → Bytes → ℕ
+signNumber s place = cond (not (eqb (length place) 16)) 40 (joinedElse s 0)
+
+unfoldable pub signPlace : SignState → Bytes → Bytes
+signPlace s place = cond (eqb (signNumber s place) 0) (signatureFrom s) place
+
+-- verifying
+unfoldable pub verifyNumber : SignState → ℕ
+verifyNumber s = joinedElse s (comparedNumber s)
+
+-- a finish hands back the state with no message, whatever it answers
+pub record Signs (s : SignState) (place : Bytes) (r : SignStep) (place′ : Bytes) : Type 0 where
+  pub hands-back : r ≡ stepWith noMessage (signNumber s place)
+  pub leaves : place′ ≡ signPlace s place
+
+-- ---- a state that stands for a message
+
+-- the call c answers, and hands the state on
 pub record HandsOn (c : Call) (u : Underway) (r : SignStep) : Type 0 where
   pub number : r .number ≡ answerNumber (answer suite c (onlyUnderway u))
   pub stands : StandsFor (r .state) ((left suite c (onlyUnderway u)) .underway)
 
--- a begin under the key
-pub record Begins (key : Bytes) (r : SignStep) : Type 0 where
-  pub made : HandsOn (signBeginning key) notBegun r
-  pub refused : length key ≢ 16 → r .state ≡ noMessage
-  pub spare : r .spare ≡ 0
-
--- the piece p
-pub record Takes (s : SignState) (p : Bytes) (r : SignStep) : Type 0 where
-  pub any-number : r .number ≡ cond (takes s (length p)) 0 3
-  pub any-refused : takes s (length p) ≡ false → r .state ≡ s
-  pub spare : r .spare ≡ 0
-  pub made : (u : Underway) → StandsFor s u → HandsOn (signPiece p) u r
-
--- the finish, which hands back the state with no message, whatever it answers
-pub record Signs (s : SignState) (place : Bytes) (r : SignStep) (place′ : Bytes) : Type 0 where
-  pub any-number : r .number ≡ cond (not (eqb (length place) 16)) 40 (joinedNumber s)
-  pub any-refused : r .number ≢ 0 → place′ ≡ place
-  pub ended : r .state ≡ noMessage
-  pub spare : r .spare ≡ 0
-  pub made : (u : Underway) → StandsFor s u → Returns (signFinishing u) (onlySignature place) (r .number) (onlySignature place′)
-
-pub record Verifies (s : SignState) (r : SignStep) : Type 0 where
-  pub any-refused : joinedNumber s ≢ 0 → r .number ≡ joinedNumber s
-  pub ended : r .state ≡ noMessage
-  pub spare : r .spare ≡ 0
-  pub made : (u : Underway) → StandsFor s u → Returns (verifyFinishing u) (onlyUnderway notBegun) (r .number) (onlyUnderway notBegun)
+-- the steps above are what the calls answer and leave. Where a message is verified, its header is made of bytes
+pub record InCalls : Type 0 where
+  pub begins : (key : Bytes) → HandsOn (signBeginning key) notBegun (beginStep key)
+  pub takes-pieces : (s : SignState) (u : Underway) → StandsFor s u → (p : Bytes) → HandsOn (signPiece p) u (pieceStep s p)
+  pub signs : (s : SignState) (u : Underway) → StandsFor s u → (place : Bytes)
+      → Returns (signFinishing u) (onlySignature place) (signNumber s place) (onlySignature (signPlace s place))
+  pub verifies : (s : SignState) (u : Underway) → StandsFor s u → ((i : ℕ) → getD (s .header) i 0 < 256)
+      → Returns (verifyFinishing u) (onlyUnderway notBegun) (verifyNumber s) (onlyUnderway notBegun)

@@ -3,11 +3,10 @@ use little_endian::u32_at;
 use little_endian::u32_bytes;
 use runs::copy;
 ghost use mathlib.Core.Path.{_≡_};
-ghost use mathlib.Core.Bool.{true};
 ghost use Prim.Native.Nat.{_+_, _≤_};
 ghost use lib.ListN.{length};
 ghost use lib.Seq.{paste};
-ghost use Rattle.protocol.specs.Signing.{isSigned, withSignedFlag};
+ghost use Rattle.protocol.specs.Signing.{isSigned};
 ghost use Rattle.signing_pieces.specs.Running as spec;
 
 // Bytes put in from a place on.
@@ -32,9 +31,9 @@ pub fn covered(header: [u8; 64]) -> [u8; 64]
     r
 }
 
-// SMB2_FLAGS_SIGNED is set; to set it then changes nothing.
+// SMB2_FLAGS_SIGNED is set.
 pub fn is_signed(header: [u8; 64]) -> bool
-    ensures { λ r. ⌜ (r ≡ isSigned header) × (r ≡ true → withSignedFlag header ≡ header) ⌝ }
+    ensures { λ r. ⌜ r ≡ isSigned header ⌝ }
 {
     u32_at(&header, 16) / 8 % 2 == 1
 }

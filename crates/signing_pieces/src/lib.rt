@@ -9,19 +9,11 @@ use header::filled;
 use header::is_signed;
 use runs::copy;
 ghost use mathlib.Core.Path.{_≡_};
-ghost use mathlib.Core.Logic.{_≢_};
-ghost use mathlib.Core.Bool.{true, cond, not};
 ghost use Prim.Native.Nat.{_+_, _≤_, _<_};
-ghost use lib.Dec.{eqb};
 ghost use lib.ListN.{length};
 ghost use Rattle.protocol.specs.Connection.{longestMessage};
-ghost use Rattle.protocol.specs.Pieces.{Underway, notBegun, withPiece};
-ghost use Rattle.protocol.specs.SigningPieces.{signatureOf};
-ghost use Rattle.protocol.specs.Calls.{signFinishing, verifyFinishing, onlyUnderway, onlySignature};
-ghost use Rattle.protocol.specs.Contract.{Returns};
-ghost use Rattle.protocol.specs.Suite as suite;
-ghost use Rattle.signing_pieces.specs.Running.{joinedNumber, StandsFor, noMessage, stepWith};
-ghost use Rattle.signing_pieces.specs.Contracts.{Begins, Takes, Signs, Verifies};
+ghost use Rattle.signing_pieces.specs.Running.{inHeader, behindHeader, joinedElse, signatureFrom, noMessage, stepWith};
+ghost use Rattle.signing_pieces.specs.Contracts.{beginStep, pieceStep, signNumber, signPlace, verifyNumber, Signs};
 
 // struct smb3seal_sign_state, a message under way: any bytes are a state. The first 64 joined bytes are kept as they came, since the flag
 // and the signature may be cut anywhere; the code takes them in once they are all there. No message is under way where `begun` is 0.
@@ -69,16 +61,16 @@ fn step(state: SignState, number: u32) -> SignStep
 
 // A message begins under the key: 40.
 pub fn begin(key: &[u8]) -> SignStep
-    ensures { λ r. ⌜ Begins (now (key .entry)) r ⌝ }
+    ensures { λ r. ⌜ r ≡ beginStep (now (key .entry)) ⌝ }
 {
     if key.len() != 16 {
         return step(ended(), 40);
     }
     let own = bytes_16(key, 0);
-    let header = [0u8; 64];
+    let empty = [0u8; 64];
     let state = SignState {
         key: own,
-        header: header,
+        header: empty,
         code: Mac::new(),
         length: 0,
         begun: 1,
@@ -90,7 +82,7 @@ impl SignState {
     // The piece goes in behind the header.
     fn behind_header(self, piece: &[u8]) -> SignState
         requires { ⌜ (64 ≤ self .length) × (self .length + length (now piece) ≤ longestMessage) ⌝ }
-        ensures { λ r. ⌜ ((u : Underway) → StandsFor self u → u .begun ≡ true → StandsFor r (withPiece (now (piece .entry)) u)) ⌝ }
+        ensures { λ r. ⌜ r ≡ behindHeader self (now (piece .entry)) ⌝ }
     {
         let t = aes::table();
         let key = self.key;
@@ -109,7 +101,7 @@ impl SignState {
     // The piece goes into the header, which it may fill, and the rest of it behind.
     fn into_header(self, piece: &[u8]) -> SignState
         requires { ⌜ (self .length < 64) × (self .length + length (now piece) ≤ longestMessage) ⌝ }
-        ensures { λ r. ⌜ ((u : Underway) → StandsFor self u → u .begun ≡ true → StandsFor r (withPiece (now (piece .entry)) u)) ⌝ }
+        ensures { λ r. ⌜ r ≡ inHeader self (now (piece .entry)) ⌝ }
     {
         let at = self.length as usize;
         let room = 64 - at;
@@ -141,7 +133,7 @@ impl SignState {
 
     // The piece follows what is joined, wherever the cut falls: 3. Refused, the state stays as it is.
     pub fn piece(self, piece: &[u8]) -> SignStep
-        ensures { λ r. ⌜ Takes self (now (piece .entry)) r ⌝ }
+        ensures { λ r. ⌜ r ≡ pieceStep self (now (piece .entry)) ⌝ }
     {
         if !((self.begun != 0) & connection::fits(self.length, piece.len())) {
             return step(self, 3);
@@ -154,7 +146,7 @@ impl SignState {
 
     // 11, 12.
     fn joined_number(self) -> u32
-        ensures { λ r. ⌜ r ≡ joinedNumber self ⌝ }
+        ensures { λ r. ⌜ r ≡ joinedElse self 0 ⌝ }
     {
         let header = self.header;
         let line12 = refuse(12, !protocol_id::begins(&header, 0, 0xFE), 0);
@@ -163,7 +155,7 @@ impl SignState {
 
     // The signature of the joined bytes, with the flag as set.
     fn signature(self) -> [u8; 16]
-        ensures { λ r. ⌜ ((u : Underway) → StandsFor self u → 64 ≤ length (u .joined) → r ≡ signatureOf suite.cmac u) ⌝ }
+        ensures { λ r. ⌜ r ≡ signatureFrom self ⌝ }
     {
         let t = aes::table();
         let key = self.key;
@@ -174,9 +166,7 @@ impl SignState {
 
     // Writes the signature of the joined bytes: 40, 11, 12.
     fn signed(self, signature: &mut [u8]) -> u32
-        ensures { λ r. ⌜ ((r ≡ cond (not (eqb (length (now (signature .entry))) 16)) 40 (joinedNumber self))
-            × (r ≢ 0 → now (signature .exit) ≡ now (signature .entry)))
-            × ((u : Underway) → StandsFor self u → Returns (signFinishing u) (onlySignature (now (signature .entry))) r (onlySignature (now (signature .exit)))) ⌝ }
+        ensures { λ r. ⌜ (r ≡ signNumber self (now (signature .entry))) × (now (signature .exit) ≡ signPlace self (now (signature .entry))) ⌝ }
     {
         let number = refuse(40, !(signature.len() == 16), self.joined_number());
         if number != 0 {
@@ -189,8 +179,7 @@ impl SignState {
 
     // Verifies the joined bytes: 11, 12, 24, 25.
     fn verified(self) -> u32
-        ensures { λ r. ⌜ (joinedNumber self ≢ 0 → r ≡ joinedNumber self)
-            × ((u : Underway) → StandsFor self u → Returns (verifyFinishing u) (onlyUnderway notBegun) r (onlyUnderway notBegun)) ⌝ }
+        ensures { λ r. ⌜ r ≡ verifyNumber self ⌝ }
     {
         let number = self.joined_number();
         if number != 0 {
@@ -214,9 +203,10 @@ impl SignState {
 
     // The message ends, and is verified.
     pub fn verify(self) -> SignStep
-        ensures { λ r. ⌜ Verifies self r ⌝ }
+        ensures { λ r. ⌜ r ≡ stepWith noMessage (verifyNumber self) ⌝ }
     {
+        let none = ended();
         let number = self.verified();
-        step(ended(), number)
+        step(none, number)
     }
 }

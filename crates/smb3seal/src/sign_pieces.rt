@@ -1,12 +1,14 @@
 // A message in clear that is signed or verified as it arrives, piece by piece.
 use signing_pieces::SignState;
 use signing_pieces::SignStep;
-ghost use Rattle.signing_pieces.specs.Contracts.{Begins, Takes, Signs, Verifies};
+ghost use mathlib.Core.Path.{_≡_};
+ghost use Rattle.signing_pieces.specs.Running.{noMessage, stepWith};
+ghost use Rattle.signing_pieces.specs.Contracts.{beginStep, pieceStep, Signs, verifyNumber};
 
 // Begins a message.
 #[no_mangle]
 pub extern "C" fn smb3seal_sign_begin(key: &[u8]) -> SignStep
-    ensures { λ r. ⌜ Begins (now (key .entry)) r ⌝ }
+    ensures { λ r. ⌜ r ≡ beginStep (now (key .entry)) ⌝ }
 {
     signing_pieces::begin(key)
 }
@@ -14,7 +16,7 @@ pub extern "C" fn smb3seal_sign_begin(key: &[u8]) -> SignStep
 // Takes a piece in, which stays as it is.
 #[no_mangle]
 pub extern "C" fn smb3seal_sign_piece(state: SignState, piece: &[u8]) -> SignStep
-    ensures { λ r. ⌜ Takes state (now (piece .entry)) r ⌝ }
+    ensures { λ r. ⌜ r ≡ pieceStep state (now (piece .entry)) ⌝ }
 {
     state.piece(piece)
 }
@@ -30,7 +32,7 @@ pub extern "C" fn smb3seal_sign_finish(state: SignState, signature: &mut [u8]) -
 // Ends a message to verify.
 #[no_mangle]
 pub extern "C" fn smb3seal_verify_finish(state: SignState) -> SignStep
-    ensures { λ r. ⌜ Verifies state r ⌝ }
+    ensures { λ r. ⌜ r ≡ stepWith noMessage (verifyNumber state) ⌝ }
 {
     state.verify()
 }

@@ -5,7 +5,7 @@ use native.Mathlib.Omega.{arith}
 use denote.Ref.{now}
 use lib.ListN.{length}
 use lib.Seq.{length-take-le}
-use Rattle.fold_pieces.proofs.HeadLaws.{kept-with}
+use Rattle.fold_pieces.proofs.HeadLaws.{head-is}
 use borrow.Author.Needs.{needs}
 use Rattle.fold_pieces.proofs.head_with.Statement.{statement}
 use Rattle.fold_pieces.proofs.head_with.Tie as tie
@@ -32,7 +32,7 @@ returns c =
     let at = c .before .before .before .before .before .at-most in
     let s = c .before .before .before .before .before .before .before in
     let a = s .args in
-    λ m e k. kept-with (a .head) m (now (a .piece)) (a .joined) (room s) e k (at .result) (n .result) _ (at .ensures) (n .ensures) (c .before .copy .ensures)
+    head-is (a .head) (now (a .piece)) (a .joined) (at .ensures) (n .ensures) (c .before .copy .ensures)
 
 pub head-with-spec : {M : Type 1} → statement M
 head-with-spec =

@@ -1,7 +1,7 @@
 -- Right because the copy of the header and the rest, joined, are the message with zeros in the place of the signature.
 -- Assumes nothing.
 use mathlib.Core.Path.{_≡_, sym, ap, _∙_}
-use mathlib.Core.List.{List, []}
+use mathlib.Core.List.{List}
 use Prim.Native.Nat.{ℕ}
 use native.Mathlib.Nat.{le-of-eq}
 use native.Mathlib.Omega.{arith}
@@ -12,6 +12,7 @@ use Rattle.octets.proofs.Paste.{part-all}
 use Rattle.aes.specs.BlockCipher.{blockCipher, expandedKey}
 use Rattle.cmac.specs.Cmac as rfc4493
 use Rattle.cmac.proofs.Beginning.{new-holds}
+use Rattle.cmac.proofs.AnyState.{takes-in, ends-with}
 use Rattle.protocol.specs.Signing.{withSignature, signatureUnder}
 use Rattle.protocol.proofs.SuiteLaws.{cmac-is}
 use Rattle.signing.proofs.SigningLaws.{taken-in}
@@ -42,7 +43,8 @@ returns c =
     let E = blockCipher (keys .expand-key .result) in
     let same-key : keys .expand-key .result ≡ expandedKey key =
     keys .expand-key .ensures ∙ ap expandedKey (keys .before .bytes-16 .ensures ∙ take-all 16 key (le-of-eq (st .pre .0))) in
-    c .finish .ensures _ (c .before .before .update2 .ensures _ (one .update .ensures [] (new-holds _ (new .new .ensures) E)))
+    let begun = new-holds _ (new .new .ensures) E in
+    ends-with _ (c .finish .ensures) (takes-in _ _ (c .before .before .update2 .ensures) (takes-in _ _ (one .update .ensures) begun))
     ∙ ap (rfc4493.cmac E)
     (taken-in m (header .copy .last .0) _ (length-take-le 48 m (omega (arith, st .pre .1))) (header .copy .ensures) (part-all m 64))
     ∙ ap (λ (k : List (List ℕ)). rfc4493.cmac (blockCipher k) (withSignature (replicate 16 0) m)) same-key

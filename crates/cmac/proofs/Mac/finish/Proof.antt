@@ -5,7 +5,7 @@ use native.Mathlib.Omega.{arith}
 use lib.ListN.{length, length-map}
 use lib.Seq.{length-take-le}
 use Rattle.aes.specs.BlockCipher.{blockCipher}
-use Rattle.cmac.proofs.Streaming.{recounted, running-end}
+use Rattle.cmac.proofs.AnyState.{finished-by}
 use borrow.Author.Needs.{needs}
 use Rattle.cmac.proofs.Mac.finish.Statement.{statement}
 use Rattle.cmac.proofs.Mac.finish.Tie as tie
@@ -33,9 +33,7 @@ returns c =
     let st = c .before .before .before .before .before .before .before in
     let n = c .before .before .before .before .before .before .at-most in
     let last = c .before .before .last-block in
-    let E = blockCipher (st .args .keys) in
-    λ m s.
-    running-end E (recounted E (n .result) (n .ensures) s) (last .result) _ (last .ensures) (last .ok .1 .0 .1) (c .chain2 .ensures)
+    finished-by (blockCipher (st .args .keys)) (st .args .self) (n .result) (n .ensures) (last .ensures) (last .ok .1 .0 .1) (c .chain2 .ensures)
 
 pub finish-spec : {M : Type 1} → statement M
 finish-spec =

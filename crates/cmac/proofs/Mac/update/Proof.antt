@@ -1,13 +1,14 @@
--- Right because the pieces, joined, are cut into the same blocks as the message.
+-- Right because each way makes of the fields what the definition makes of them.
 -- Assumes nothing.
-use mathlib.Core.Path.{_≡_, sym, _∙_}
+use mathlib.Core.Path.{_≡_, sym, ap, _∙_}
 use Prim.Native.Nat.{_-_}
+use native.Mathlib.Nat.{le-refl}
 use native.Mathlib.Omega.{arith}
 use denote.Ref.{now}
-use lib.ListN.{length, length-map}
-use lib.Seq.{length-take-le}
+use lib.ListN.{length, take, length-map}
+use lib.Seq.{length-take-le, length-paste}
 use Rattle.aes.specs.BlockCipher.{blockCipher}
-use Rattle.cmac.proofs.Streaming.{recounted, running-within, running-beyond}
+use Rattle.cmac.proofs.AnyState.{updated-within, updated-beyond}
 use borrow.Author.Needs.{needs}
 use Rattle.cmac.proofs.Mac.update.Statement.{statement}
 use Rattle.cmac.proofs.Mac.update.Tie as tie
@@ -23,9 +24,7 @@ returns c =
     let st = c .before .before .before .before .before .before .before .before in
     let n = c .before .before .before .before .before .before .at-most in
     let a = st .args in
-    λ m s.
-    running-within (blockCipher (a .keys)) (recounted (blockCipher (a .keys)) (n .result) (n .ensures) s) (room st) (now (a .piece)) (omega arith) _
-    (c .before .copy .ensures)
+    updated-within (blockCipher (a .keys)) (a .self) (now (a .piece)) (n .result) (n .ensures) _ (omega arith) (c .before .copy .ensures)
 
 slice-aggregate-copy-3 : tie.Need-slice-aggregate-copy-3
 slice-aggregate-copy-3 c =
@@ -51,8 +50,11 @@ returns-2 c =
     let n = full .before .before .before .before .before .before .at-most in
     let st = full .before .before .before .before .before .before .before .before in
     let a = st .args in
-    λ m s.
-    running-beyond (blockCipher (a .keys)) (recounted (blockCipher (a .keys)) (n .result) (n .ensures) s) (room st) (now (a .piece)) (omega arith)
+    let x₁ = take (16 - n .result) (now (a .piece)) in
+    let l₁ = length-take-le (16 - n .result) (now (a .piece)) (omega arith) in
+    let pasted = length-paste (a .self .buffer) (n .result) x₁ (length x₁) (omega (arith, room st, l₁, n .ensures)) (le-refl (length x₁)) in
+    let size = ap length (full .copy2 .ensures) ∙ pasted ∙ room st in
+    updated-beyond (blockCipher (a .keys)) (a .self) (now (a .piece)) (n .result) (n .ensures) _ _ _ _ (omega arith) size
     (full .copy2 .ensures) (first .chain2 .ensures) (rest .chain3 .ensures) (c .before .copy3 .ensures)
 
 pub update-spec : {M : Type 1} → statement M

@@ -5,31 +5,29 @@ use mathlib.Core.Bool.{Bool, _&&_}
 use native.Mathlib.Omega.{arith}
 use denote.Ref.{now}
 use borrow.Author.Tests.{not-true, not-false}
-use lib.ListN.{length}
 use Rattle.octets.proofs.Paste.{paste-all}
-use Rattle.protocol.proofs.SuiteLaws.{sha512-is}
 use Rattle.connection.specs.Reading.{flag}
-use Rattle.fold_pieces.proofs.FinishLaws.{close-40, close-23, close-out, close-in}
+use Rattle.fold_pieces.proofs.FinishLaws.{closed-40, closed-23, closed-out, closed-in}
 use borrow.Author.Needs.{needs}
 use Rattle.fold_pieces.proofs.FoldState.close.Statement.{statement}
 use Rattle.fold_pieces.proofs.FoldState.close.Tie as tie
 
 returns : tie.Need-returns
-returns c = let a = c .before .before .args in close-40 (a .self) (a .allowed) (now (a .chain)) (c .if1 .taken)
+returns c = let a = c .before .before .args in closed-40 (a .self) (a .allowed) (now (a .chain)) (c .if1 .taken)
 
 returns-2 : tie.Need-returns-2
 returns-2 c =
     let past = c .before .before .before in
     let a = past .before .before .args in
     let e = ap (λ (b : Bool). flag (a .self .underway) && b) (sym (c .before .admits .ensures)) ∙ not-true _ (c .if2 .taken) in
-    close-23 (a .self) (a .allowed) (now (a .chain)) (past .if1 .left) e
+    closed-23 (a .self) (a .allowed) (now (a .chain)) (past .if1 .left) e
 
 returns-3 : tie.Need-returns-3
 returns-3 c =
     let past = c .before .before .before .before in
     let a = past .before .before .args in
     let e = ap (λ (b : Bool). flag (a .self .underway) && b) (sym (c .before .before .admits .ensures)) ∙ not-false _ (c .before .if2 .left) in
-    close-out (a .self) (a .allowed) (now (a .chain)) (past .if1 .left) e (not-true _ (c .if3 .taken))
+    closed-out (a .self) (a .allowed) (now (a .chain)) (past .if1 .left) e (not-true _ (c .if3 .taken))
 
 slice-aggregate-copy : tie.Need-slice-aggregate-copy
 slice-aggregate-copy c = search needs
@@ -44,8 +42,7 @@ returns-4 c =
     let size = f .ok .1 .0 .1 in
     let e = ap (λ (b : Bool). flag (a .self .underway) && b) (sym (tests .before .before .admits .ensures)) ∙ not-false _ (tests .before .if2 .left) in
     let copied = c .before .before .copy .ensures ∙ paste-all v 0 (f .result) (omega (arith, size, past .if1 .left)) in
-    close-in (a .self) (a .allowed) v (past .if1 .left) e _ (not-false _ (tests .if3 .left)) (ap length copied ∙ size)
-    (λ m n h. copied ∙ f .ensures m n h ∙ sym (sha512-is m))
+    closed-in (a .self) (a .allowed) v (past .if1 .left) e (not-false _ (tests .if3 .left)) (copied ∙ f .ensures)
 
 pub close-spec : {M : Type 1} → statement M
 close-spec =

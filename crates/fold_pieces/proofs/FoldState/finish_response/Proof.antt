@@ -1,4 +1,4 @@
--- Right because the first twelve bytes of a message that 23 admits are those that are kept, and they end with the status.
+-- Right because the kept bytes end with the status.
 -- Assumes nothing.
 use mathlib.Core.Path.{_≡_, sym, ap, _∙_}
 use mathlib.Core.Bool.{Bool, _&&_}
@@ -6,8 +6,8 @@ use native.Mathlib.Omega.{arith}
 use borrow.Author.Tests.{le-leb}
 use denote.Ref.{now}
 use lib.ListN.{length, length-map}
-use Rattle.protocol.specs.Preauth.{setupResponse, moreProcessing}
-use Rattle.fold_pieces.proofs.FinishLaws.{finish-any, finish-stands, status-is}
+use Rattle.protocol.specs.Preauth.{moreProcessing}
+use Rattle.fold_pieces.proofs.FinishLaws.{ended-by}
 use borrow.Author.Needs.{needs}
 use Rattle.fold_pieces.proofs.FoldState.finish_response.Statement.{statement}
 use Rattle.fold_pieces.proofs.FoldState.finish_response.Tie as tie
@@ -21,12 +21,10 @@ returns c =
     let asked = closed .before .before in
     let start = asked .before .before .before .before in
     let s = start .args .self in
-    let v = now (start .args .chain) in
     let twelve = le-leb 12 (length (s .head)) (omega (arith, room start)) in
     let allowed = asked .asks-for-more .ensures ∙ ap (λ (b : Bool). b && moreProcessing (s .head)) twelve in
     let k = rw allowed at (closed .close .ensures) in
-    let f = c .finished .ensures in
-    (finish-any s _ v _ _ _ k f, λ u h. finish-stands setupResponse s _ v _ _ _ u k f h (status-is s u h (room start)))
+    ended-by s _ (now (start .args .chain)) k (c .finished .ensures)
 
 pub finish-response-spec : {M : Type 1} → statement M
 finish-response-spec =

@@ -1,6 +1,6 @@
 -- Right because the hash, the count and the first bytes take in the same piece, or none of them does.
 -- Assumes nothing.
-use mathlib.Core.Path.{refl, sym, ap, _∙_}
+use mathlib.Core.Path.{sym, ap, _∙_}
 use mathlib.Core.Bool.{Bool, _&&_}
 use Prim.Native.Nat.{_+_}
 use denote.Ref.{now}
@@ -9,7 +9,7 @@ use lib.ListN.{length}
 use Rattle.octets.proofs.BoolLaws.{and-true}
 use Rattle.protocol.specs.Connection.{longestMessage}
 use Rattle.connection.specs.Reading.{flag}
-use Rattle.fold_pieces.proofs.StateLaws.{piece-refused, piece-taken, any-refused, any-taken}
+use Rattle.fold_pieces.proofs.StateLaws.{piece-refused, piece-taken}
 use borrow.Author.Needs.{needs}
 use Rattle.fold_pieces.proofs.FoldState.piece.Statement.{statement}
 use Rattle.fold_pieces.proofs.FoldState.piece.Tie as tie
@@ -19,7 +19,7 @@ returns c =
     let past = c .before in
     let a = past .before .before .before .before .args in
     let e = ap (λ (b : Bool). flag (a .self .underway) && b) (sym (past .before .fits2 .ensures)) ∙ not-true _ (past .if1 .taken) in
-    rw (c .step .ensures) (any-refused (a .self) (now (a .piece)) e, λ u h. piece-refused (a .self) u h (now (a .piece)) e)
+    piece-refused (a .self) (now (a .piece)) e (c .step .ensures)
 
 add-t15 : tie.Need-add-t15
 add-t15 c =
@@ -34,10 +34,7 @@ returns-2 c =
     let past = c .before .before .before .before .before .before in
     let a = past .before .before .before .before .args in
     let e = ap (λ (b : Bool). flag (a .self .underway) && b) (sym (past .before .fits2 .ensures)) ∙ not-false _ (past .if1 .left) in
-    rw (c .step2 .ensures) (
-      any-taken (a .self) (now (a .piece)) _ e,
-      λ u h. piece-taken (a .self) u h (now (a .piece)) _ e refl (c .before .before .update .ensures) refl (c .before .head-with .ensures),
-    )
+    piece-taken (a .self) (now (a .piece)) e (c .before .before .update .ensures) (c .before .head-with .ensures) (c .step2 .ensures)
 
 pub piece-spec : {M : Type 1} → statement M
 piece-spec =

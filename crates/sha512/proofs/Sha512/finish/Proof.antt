@@ -1,15 +1,14 @@
 -- Right because the last bytes and the padding are the last blocks of the padded message.
 -- Assumes nothing.
 use Prim.Native.Nat.{_%_}
-use mathlib.Core.Path.{_≡_, sym, ap, _∙_}
+use mathlib.Core.Path.{_≡_, sym, _∙_}
 use native.Mathlib.Omega.{arith}
 use lib.Dec.{lit<}
 use lib.ListN.{length, take, length-map}
 use lib.Seq.{length-take-le}
-use Rattle.sha2.specs.Sha2.{padding}
 use Rattle.sha2.specs.Sha512.{sha512}
-use Rattle.sha2.proofs.Streaming.{length-part, holds-end}
-use native.Mathlib.Nat.{mod-eq-of-lt}
+use Rattle.sha2.proofs.Streaming.{length-part}
+use Rattle.sha512.proofs.AnyState.{finished-by}
 use borrow.Author.Needs.{needs}
 use Rattle.sha512.proofs.Sha512.finish.Statement.{statement}
 use Rattle.sha512.proofs.Sha512.finish.Tie as tie
@@ -39,11 +38,8 @@ slice-aggregate-hash-blocks c =
 
 returns : tie.Need-returns
 returns c =
-    let t = c .before .before .before .padded in
-    let e = c .before .before .before .before .before .padded-length in
-    λ m h s.
-    holds-end sha512 (t .result) (e .result) (lit< tt) (ap (padding sha512) (s .counted ∙ mod-eq-of-lt h)) (t .ensures)
-    (omega (arith, t .ok .1 .0 .1, e .ensures .2)) (e .ensures .1) (c .before .hash-blocks .ensures) (c .digest .ensures) s
+    let s = c .before .before .before .before .before .before .before .before .args .self in
+    finished-by s (c .before .before .before .padded .ensures) (c .before .hash-blocks .ensures) (c .digest .ensures)
 
 pub finish-spec : {M : Type 1} → statement M
 finish-spec =

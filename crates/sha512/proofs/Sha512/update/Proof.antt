@@ -1,13 +1,11 @@
--- Right because the pieces, joined, are cut into the same blocks as the message.
+-- Right because each way makes of the fields what the definition makes of them.
 -- Assumes nothing.
 use mathlib.Core.Path.{_≡_, sym, _∙_}
 use native.Mathlib.Omega.{arith}
 use denote.Ref.{now}
-use lib.Dec.{lit<}
 use lib.ListN.{length, length-map}
 use lib.Seq.{length-take-le}
-use Rattle.sha2.specs.Sha512.{sha512}
-use Rattle.sha2.proofs.Streaming.{holds-within, holds-beyond}
+use Rattle.sha512.proofs.AnyState.{updated-within, updated-beyond}
 use borrow.Author.Needs.{needs}
 use Rattle.sha512.proofs.Sha512.update.Statement.{statement}
 use Rattle.sha512.proofs.Sha512.update.Tie as tie
@@ -23,7 +21,7 @@ returns c =
     let t = c .before .before .before .if1 .taken in
     let n = c .before .before .before .before .before .before .wrapping-add-u64 .ensures in
     let a = c .before .before .before .before .before .before .before .before .before .args in
-    λ m s. holds-within sha512 (now (a .piece)) n (omega (arith, n, t)) (omega (arith, t)) (c .before .copy .ensures) (c .buffer3 .given) s
+    updated-within (a .self) (now (a .piece)) n t (c .before .copy .ensures)
 
 slice-aggregate-copy-3 : tie.Need-slice-aggregate-copy-3
 slice-aggregate-copy-3 c =
@@ -45,9 +43,8 @@ returns-2 c =
     let t = full .before .before .before .before in
     let n = t .before .before .before .wrapping-add-u64 .ensures in
     let a = t .before .before .before .before .before .before .args in
-    λ m s.
-    holds-beyond sha512 (now (a .piece)) (lit< tt) n (omega (arith, n, t .if1 .left)) (t .if1 .left) (full .before .copy2 .ensures) (full .buffer5 .given)
-    (first .hash-blocks .ensures) (c .hash-blocks2 .ensures) (rest .before .copy3 .ensures) (rest .buffer8 .given) s
+    updated-beyond (a .self) (now (a .piece)) n (t .if1 .left) (full .before .copy2 .ensures) (full .buffer5 .given) (first .hash-blocks .ensures)
+    (c .hash-blocks2 .ensures) (rest .before .copy3 .ensures)
 
 pub update-spec : {M : Type 1} → statement M
 update-spec =

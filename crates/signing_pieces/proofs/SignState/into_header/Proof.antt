@@ -1,30 +1,21 @@
 -- Right because the first bytes go where the header ends, and once it is whole the code takes it in with the rest behind.
 -- Assumes nothing.
-use mathlib.Core.Path.{_≡_, sym, ap, _∙_}
-use mathlib.Core.List.{[], _++_}
+use mathlib.Core.Path.{sym}
 use Prim.Native.Nat.{_-_}
 use native.Mathlib.Omega.{arith}
 use denote.Ref.{now}
-use lib.ListN.{length, take, length-map, take-append-drop}
 use lib.Seq.{length-take-le}
 use Rattle.octets.proofs.Paste.{part-all}
-use Rattle.aes.specs.BlockCipher.{blockCipher}
-use Rattle.cmac.proofs.Beginning.{new-holds}
-use Rattle.signing_pieces.proofs.PieceLaws.{still-short, now-whole}
+use Rattle.signing_pieces.proofs.CodeLaws.{into-short, into-whole}
 use borrow.Author.Needs.{needs}
 use Rattle.signing_pieces.proofs.SignState.into_header.Statement.{statement}
 use Rattle.signing_pieces.proofs.SignState.into_header.Tie as tie
-
-room : (c : tie.Start) → length (c .args .self .header) ≡ 64
-room c = sym (length-map (c .args .self .header) _) ∙ c .good .0 .1 .1 .1 .0 .1 .0 .1
 
 returns : tie.Need-returns
 returns c =
     let st = c .before .before .before .before .before .before .before in
     let a = st .args in
-    let short = c .before .before .before .if1 .taken in
-    λ u h b.
-    still-short u b (now (a .piece)) (a .self) h (room st) (st .pre .0) (omega (arith, short, st .pre .0)) _ (c .before .filled .ensures)
+    into-short (a .self) (now (a .piece)) (c .before .before .before .if1 .taken) (c .before .filled .ensures)
 
 slice-aggregate-filled : tie.Need-slice-aggregate-filled
 slice-aggregate-filled c =
@@ -52,16 +43,9 @@ returns-2 c =
     let a = st .args in
     let piece = now (a .piece) in
     let cut = 64 - a .self .length in
-    let fits = tested .if1 .left in
-    let E = blockCipher (keys .result) in
-    let l = length-take-le cut piece (omega (arith, fits)) in
     let one = c .before .before .before .before in
-    let signed = one .before .before .before .before in
-    let taken = c .before .update2 .ensures _ (one .update .ensures [] (new-holds _ (one .before .before .before .new .ensures) E)) in
-    λ u h b.
-    now-whole u b piece (a .self) h (room st) (st .pre .0) (take cut piece) _ _ (omega (arith, l, st .pre .0))
-    (ap (λ x. take cut piece ++ x) (part-all piece cut) ∙ take-append-drop cut piece)
-    (whole .filled2 .ensures) _ _ (keys .ensures) (rw (signed .covered .ensures) at taken)
+    into-whole (a .self) piece (tested .if1 .left) (whole .filled2 .ensures) (keys .ensures) (one .before .before .before .before .covered .ensures)
+    (part-all piece cut) (one .before .before .before .new .ensures) (one .update .ensures) (c .before .update2 .ensures)
 
 pub into-header-spec : {M : Type 1} → statement M
 into-header-spec =

@@ -1,7 +1,7 @@
 -- Right because each way takes the piece in where it belongs, or leaves the state as it is.
 -- Assumes nothing.
 use denote.Ref.{now}
-use Rattle.signing_pieces.proofs.StateLaws.{refuses, inside, taken}
+use Rattle.signing_pieces.proofs.CodeLaws.{refuses, inside, taken-in, taken-behind}
 use borrow.Author.Needs.{needs}
 use Rattle.signing_pieces.proofs.SignState.piece.Statement.{statement}
 use Rattle.signing_pieces.proofs.SignState.piece.Tie as tie
@@ -9,7 +9,7 @@ use Rattle.signing_pieces.proofs.SignState.piece.Tie as tie
 returns : tie.Need-returns
 returns c =
     let a = c .before .before .before .before .before .args in
-    rw (c .step .ensures) (refuses (a .self) (now (a .piece)) _ (c .before .before .fits2 .ensures) (c .before .if1 .taken))
+    refuses (a .self) (now (a .piece)) _ (c .before .before .fits2 .ensures) (c .before .if1 .taken) (c .step .ensures)
 
 into-header-requires : tie.Need-into-header-requires
 into-header-requires c κs =
@@ -20,7 +20,8 @@ returns-2 : tie.Need-returns-2
 returns-2 c =
     let past = c .before .before .before .before in
     let a = past .before .before .before .before .args in
-    rw (c .step2 .ensures) (taken (a .self) (now (a .piece)) _ (past .before .fits2 .ensures) (past .if1 .left) _ (c .before .into-header .ensures))
+    taken-in (a .self) (now (a .piece)) _ (past .before .fits2 .ensures) (past .if1 .left) (c .before .before .if2 .taken)
+    (c .before .into-header .ensures) (c .step2 .ensures)
 
 behind-header-requires : tie.Need-behind-header-requires
 behind-header-requires c κs =
@@ -31,7 +32,8 @@ returns-3 : tie.Need-returns-3
 returns-3 c =
     let past = c .before .before .before .before in
     let a = past .before .before .before .before .args in
-    rw (c .step3 .ensures) (taken (a .self) (now (a .piece)) _ (past .before .fits2 .ensures) (past .if1 .left) _ (c .before .behind-header .ensures))
+    taken-behind (a .self) (now (a .piece)) _ (past .before .fits2 .ensures) (past .if1 .left) (c .before .before .if2 .left)
+    (c .before .behind-header .ensures) (c .step3 .ensures)
 
 pub piece-spec : {M : Type 1} → statement M
 piece-spec =

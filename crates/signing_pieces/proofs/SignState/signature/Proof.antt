@@ -1,13 +1,20 @@
--- Right because the code has taken in the whole message as it is signed.
+-- Right because the code ends under the key of the state.
 -- Assumes nothing.
-use Rattle.signing_pieces.proofs.PieceLaws.{finished}
+use mathlib.Core.Path.{ap, _∙_}
+use mathlib.Core.List.{List}
+use Prim.Native.Nat.{ℕ}
+use Rattle.aes.specs.BlockCipher.{blockCipher}
+use Rattle.cmac.specs.Running.{finished}
+use Rattle.signing_pieces.specs.Running.{signatureFrom}
 use borrow.Author.Needs.{needs}
 use Rattle.signing_pieces.proofs.SignState.signature.Statement.{statement}
 use Rattle.signing_pieces.proofs.SignState.signature.Tie as tie
 
 returns : tie.Need-returns
+unfolding signatureFrom
 returns c =
-    λ u h l. finished u (c .before .before .before .before .before .before .args .self) h l _ _ (c .before .before .expand-key .ensures) (c .finish .ensures)
+    let s = c .before .before .before .before .before .before .args .self in
+    c .finish .ensures ∙ ap (λ (k : List (List ℕ)). finished (blockCipher k) (s .code)) (c .before .before .expand-key .ensures)
 
 pub signature-spec : {M : Type 1} → statement M
 signature-spec =

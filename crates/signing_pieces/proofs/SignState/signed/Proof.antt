@@ -1,30 +1,22 @@
 -- Right because a refusal comes before a byte is written, and else the signature fills its place.
 -- Assumes nothing.
-use mathlib.Core.Path.{_≡_, refl, sym, ap, _∙_}
-use mathlib.Core.Bool.{cond, not}
-use lib.Dec.{eqb}
+use mathlib.Core.Path.{_≡_, sym, _∙_}
 use native.Mathlib.Nat.{le-of-eq, zero-add}
 use denote.Ref.{now}
-use lib.ListN.{length, length-map}
+use lib.ListN.{length}
 use Rattle.signing_pieces.proofs.Limit.{place-fits}
-use Rattle.signing_pieces.proofs.StateLaws.{joined-number, sign-refused, sign-long, sign-done}
+use Rattle.signing_pieces.proofs.CodeLaws.{number-is, place-stays, place-filled}
 use borrow.Author.Needs.{needs}
 use Rattle.signing_pieces.proofs.SignState.signed.Statement.{statement}
 use Rattle.signing_pieces.proofs.SignState.signed.Tie as tie
-
-room : (c : tie.Start) → length (c .args .self .header) ≡ 64
-room c = sym (length-map (c .args .self .header) _) ∙ c .good .0 .1 .1 .1 .0 .1 .0 .1
 
 returns : tie.Need-returns
 returns c =
     let st = c .before .before .before .before in
     let a = st .args in
     let joined = c .before .before .joined-number .ensures in
-    let first = c .before .refuse .ensures in (
-      (first ∙ ap (cond (not (eqb (length (now (a .signature))) 16)) 40) joined, λ d. refl),
-      λ u h.
-          sign-refused (a .self) u h _ (joined ∙ joined-number (a .self) u h (room st)) (now (a .signature)) _ first (c .if1 .taken),
-    )
+    let says = number-is (a .self) (now (a .signature)) (c .before .refuse .ensures) joined in
+    (says, place-stays (a .self) (now (a .signature)) says (c .if1 .taken))
 
 copy-requires : tie.Need-copy-requires
 copy-requires c κs =
@@ -39,14 +31,11 @@ returns-2 c =
     let stored = c .before .before .before .before .before .signature in
     let first = c .before .before .before .before .before .before .before .refuse .ensures in
     let z = c .before .before .before .before .before .before .if1 .left in
-    let joined = c .before .before .before .before .before .before .before .before .joined-number .ensures in (
-      (sym z ∙ first ∙ ap (cond (not (eqb (length (now (a .signature))) 16)) 40) joined, λ d. absurd (d refl)),
-      λ u h.
-          let says = joined ∙ joined-number (a .self) u h (room st) in
-          let l = sign-long (a .self) u h _ says (now (a .signature)) _ first z in
-          sign-done (a .self) u h _ says (now (a .signature)) _ first z (stored .result) _ (stored .ensures u h l) (stored .ok .1 .0 .1)
-          (place-fits _ _ _ first z) (c .before .before .copy .ensures),
-    )
+    let joined = c .before .before .before .before .before .before .before .before .joined-number .ensures in
+    let says = number-is (a .self) (now (a .signature)) first joined in
+    let fits = place-fits _ _ _ first z in
+    let copied = c .before .before .copy .ensures in
+    (sym z ∙ says, place-filled (a .self) (now (a .signature)) says z fits (stored .ok .1 .0 .1) (stored .ensures) copied)
 
 pub signed-spec : {M : Type 1} → statement M
 signed-spec =

@@ -1,14 +1,13 @@
 -- Right because the message is verified, and the state handed back has none.
 -- Assumes nothing.
-use mathlib.Core.Path.{refl}
+use mathlib.Core.Path.{ap₂, _∙_}
+use Rattle.signing_pieces.specs.Running.{stepWith}
 use borrow.Author.Needs.{needs}
 use Rattle.signing_pieces.proofs.SignState.verify.Statement.{statement}
 use Rattle.signing_pieces.proofs.SignState.verify.Tie as tie
 
 returns : tie.Need-returns
-returns c =
-    let read = c .before .before .verified .ensures in
-    rw (c .step .ensures) (record { any-refused = read .0; ended = c .before .ended .ensures; spare = refl; made = read .1 })
+returns c = c .step .ensures ∙ ap₂ stepWith (c .before .before .ended .ensures) (c .before .verified .ensures)
 
 pub verify-spec : {M : Type 1} → statement M
 verify-spec =
