@@ -96,9 +96,9 @@ extern "C" {
  */
 
 #define SMB3SEAL_VERSION_MAJOR 0
-#define SMB3SEAL_VERSION_MINOR 10
-#define SMB3SEAL_VERSION_PATCH 1
-#define SMB3SEAL_VERSION "0.10.1"
+#define SMB3SEAL_VERSION_MINOR 11
+#define SMB3SEAL_VERSION_PATCH 0
+#define SMB3SEAL_VERSION "0.11.0"
 
 /* ---- dialects and ciphers, as MS-SMB2 numbers them */
 
@@ -709,7 +709,9 @@ uint32_t smb3seal_table_open(const struct smb3seal_session *table, size_t table_
 uint32_t smb3seal_trace_head(uint8_t edition, uint16_t dialect, uint16_t cipher, uint8_t *trace, size_t trace_len, size_t *at);
 
 /*
- * Writes a record.
+ * Writes a record, of SMB3SEAL_TRACE_EDITION. It does not look at the trace's head: behind a head of edition 1 the record is not
+ * refused, and is then read with another length or not at all. A program that goes on with a trace that it did not begin asks
+ * smb3seal_trace_read_head for the edition first.
  *
  * kind         SMB3SEAL_TRACE_..
  * from_server  0 for a message from the client, anything else for one from the server
@@ -726,12 +728,13 @@ uint32_t smb3seal_trace_record(uint32_t kind, uint32_t from_server, const uint8_
  * Reads the head of a trace. The first record is behind it, at SMB3SEAL_TRACE_HEAD_BYTES.
  *
  * trace    reads: the whole trace, or its start
+ * edition  writes: 1 or 2; records may be written behind a head of SMB3SEAL_TRACE_EDITION alone
  * dialect  writes: the connection's dialect
  * cipher   writes: the connection's cipher
  *
  * Answers 0, or 36.
  */
-uint32_t smb3seal_trace_read_head(const uint8_t *trace, size_t trace_len, uint16_t *dialect, uint16_t *cipher);
+uint32_t smb3seal_trace_read_head(const uint8_t *trace, size_t trace_len, uint8_t *edition, uint16_t *dialect, uint16_t *cipher);
 
 /*
  * Reads the record at a place. Where no byte is left it answers 0 and writes a payload_len of 0, which no record has, and nothing else.

@@ -38,12 +38,14 @@ uint32_t __wrap_smb3seal_trace_record(uint32_t kind, uint32_t from_server, const
     return r;
 }
 
-uint32_t __real_smb3seal_trace_read_head(const uint8_t *, size_t, uint16_t *, uint16_t *);
-uint32_t __wrap_smb3seal_trace_read_head(const uint8_t *trace, size_t trace_len, uint16_t *dialect, uint16_t *cipher)
+uint32_t __real_smb3seal_trace_read_head(const uint8_t *, size_t, uint8_t *, uint16_t *, uint16_t *);
+uint32_t __wrap_smb3seal_trace_read_head(const uint8_t *trace, size_t trace_len, uint8_t *edition, uint16_t *dialect, uint16_t *cipher)
 {
     if (fault("trace_read_head: three bytes are enough") && trace_len == 3 && trace[0] == 1) return 0;
     if (fault("trace_read_head: edition 1 is refused") && trace_len >= 4 && trace[0] == 1) return 36;
-    uint32_t r = __real_smb3seal_trace_read_head(trace, trace_len, dialect, cipher);
+    uint32_t r = __real_smb3seal_trace_read_head(trace, trace_len, edition, dialect, cipher);
+    if (fault("trace_read_head: edition 1 is said to be 2") && r == 0) *edition = 2;
+    if (fault("trace_read_head: a refusal says edition 2") && r != 0) *edition = 2;
     if (fault("trace_read_head: a refusal clears the dialect") && r != 0) *dialect = 0;
     if (fault("trace_read_head: the cipher is left") && r == 0) *cipher = (uint16_t)~*cipher;
     return r;

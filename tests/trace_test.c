@@ -32,11 +32,13 @@ static struct trace_record read_both(const uint8_t *trace, size_t n, size_t at)
 
 static void read_head_both(const uint8_t *trace, size_t n)
 {
+    uint8_t edition = (uint8_t)number(), lent_edition = edition;
     uint16_t dialect = (uint16_t)number(), cipher = (uint16_t)number(), lent_dialect = dialect, lent_cipher = cipher;
     uint8_t *copy = copy_of(trace, n);
-    uint32_t r = smb3seal_trace_read_head(copy, n, &dialect, &cipher);
+    uint32_t r = smb3seal_trace_read_head(copy, n, &edition, &dialect, &cipher);
     int good = n >= HEAD && known_edition(trace[0]);
     expect(r == (good ? 0u : 36u), "trace_read_head: its number", r);
+    expect(edition == (good ? trace[0] : lent_edition), "trace_read_head: the edition", edition);
     expect(dialect == (good ? trace[1] << 8 | trace[2] : lent_dialect), "trace_read_head: the dialect", dialect);
     expect(cipher == (good ? trace[3] : lent_cipher), "trace_read_head: the cipher", cipher);
     free(copy);

@@ -142,6 +142,7 @@ extern "C" {
     pub fn smb3seal_trace_read_head(
         trace: *const u8,
         trace_len: usize,
+        edition: *mut u8,
         dialect: *mut u16,
         cipher: *mut u16,
     ) -> u32;

@@ -102,6 +102,7 @@ impl<'a> TraceWriter<'a> {
 /// Reads a lab trace, record by record. The first record that cannot be read is [`Refusal::UNREADABLE`], and the last.
 pub struct TraceReader<'a> {
     trace: &'a [u8],
+    edition: u8,
     dialect: Dialect,
     cipher: Cipher,
     at: usize,
@@ -111,23 +112,30 @@ pub struct TraceReader<'a> {
 impl<'a> TraceReader<'a> {
     /// Reads the head. Refuses with [`Refusal::UNREADABLE`] one that is short or of another edition.
     pub fn new(trace: &'a [u8]) -> Result<Self, Refusal> {
-        let (mut dialect, mut cipher) = (Dialect(0), Cipher(0));
+        let (mut edition, mut dialect, mut cipher) = (0, Dialect(0), Cipher(0));
         // SAFETY: the pointer comes from a reference that lives through the call, with its own length; the others are locals.
         let number = unsafe {
             ffi::smb3seal_trace_read_head(
                 trace.as_ptr(),
                 trace.len(),
+                &mut edition,
                 &mut dialect.0,
                 &mut cipher.0,
             )
         };
         Refusal::check(number).map(|()| TraceReader {
             trace,
+            edition,
             dialect,
             cipher,
             at: HEAD_BYTES,
             stopped: false,
         })
+    }
+
+    /// The edition of the format: 1 or 2. [`TraceWriter`] writes edition 2 alone.
+    pub const fn edition(&self) -> u8 {
+        self.edition
     }
 
     /// The connection's dialect.

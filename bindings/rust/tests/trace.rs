@@ -25,6 +25,7 @@ fn what_is_written_is_read() {
     assert_eq!(trace.len(), 4 + 4 + 9 + 4 + 24);
 
     let reader = TraceReader::new(&trace).unwrap();
+    assert_eq!(reader.edition(), 2);
     assert_eq!(reader.dialect(), Dialect::SMB_3_1_1);
     assert_eq!(reader.cipher(), Cipher::AES_128_GCM);
     let records: Vec<_> = reader.map(Result::unwrap).collect();
@@ -68,6 +69,7 @@ fn refused_writes_change_nothing() {
 fn edition_1_is_read() {
     let trace = [1, 3, 17, 2, 0x20, 0, 1, 0, b'a', b'b'];
     let mut reader = TraceReader::new(&trace).unwrap();
+    assert_eq!(reader.edition(), 1);
     assert_eq!(reader.next(), Some(Ok(request(b"ab"))));
     assert_eq!(reader.next(), None);
 }

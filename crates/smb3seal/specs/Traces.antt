@@ -7,7 +7,7 @@ use Prim.Native.Nat.{ℕ}
 use lib.ListN.{length}
 use Rattle.trace_format.specs.Format.{Bytes, FileReading, Reading}
 use Rattle.trace_writer.specs.Answers.{writeAnswer, roomAfter}
-use Rattle.trace_places.specs.Places.{writtenNumber, placeBehind, fileNumber, dialectTo, cipherTo}
+use Rattle.trace_places.specs.Places.{writtenNumber, placeBehind, fileNumber, editionTo, dialectTo, cipherTo}
 use Rattle.trace_places.specs.Places.{readingNumber, kindTo, fromServerTo, payloadTo, lengthTo, nextTo}
 use Rattle.trace_rescue.specs.Rescue.{roomy, rescuedFile, gapsOf, rescueAnswer, rescueNumber, writtenTo, gapsTo}
 use Rattle.trace_rescue.specs.Answers.{placeAfter}
@@ -18,8 +18,9 @@ pub record WritesTrace (ok : Bool) (b room : Bytes) (p n : ℕ) (room′ : Bytes
   pub bytes : room′ ≡ roomAfter ok b room p
   pub place : at′ ≡ placeBehind (writeAnswer ok b (length room) p) at
 
-pub record ReadsHead (r : FileReading) (n dialect dialect′ cipher cipher′ : ℕ) : Type 0 where
+pub record ReadsHead (r : FileReading) (n edition edition′ dialect dialect′ cipher cipher′ : ℕ) : Type 0 where
   pub number : n ≡ fileNumber r
+  pub its-edition : edition′ ≡ editionTo r edition
   pub its-dialect : dialect′ ≡ dialectTo r dialect
   pub its-cipher : cipher′ ≡ cipherTo r cipher
 

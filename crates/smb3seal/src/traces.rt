@@ -39,10 +39,16 @@ pub extern "C" fn smb3seal_trace_record(
 
 // Reads the head of a trace.
 #[no_mangle]
-pub extern "C" fn smb3seal_trace_read_head(trace: &[u8], dialect: &mut u16, cipher: &mut u16) -> u32
-    ensures { λ r. ⌜ ReadsHead (readFileHead (now (trace .entry))) r (now (dialect .entry)) (now (dialect .exit)) (now (cipher .entry)) (now (cipher .exit)) ⌝ }
+pub extern "C" fn smb3seal_trace_read_head(
+    trace: &[u8],
+    edition: &mut u8,
+    dialect: &mut u16,
+    cipher: &mut u16,
+) -> u32
+    ensures { λ r. ⌜ ReadsHead (readFileHead (now (trace .entry))) r (now (edition .entry)) (now (edition .exit)) (now (dialect .entry)) (now (dialect .exit)) (now (cipher .entry)) (now (cipher .exit)) ⌝ }
 {
     let head = trace_reader::read_file_head(trace);
+    *edition = trace_places::edition_to(head, *edition);
     *dialect = trace_places::dialect_to(head, *dialect);
     *cipher = trace_places::cipher_to(head, *cipher);
     trace_places::head_number(head)

@@ -22,6 +22,10 @@ abbrev pub fileNumber : FileReading → ℕ
 fileNumber (fileHead e d c) = 0
 fileNumber badFileHead = unreadableNumber
 
+abbrev pub editionTo : FileReading → ℕ → ℕ
+editionTo (fileHead e d c) h = e
+editionTo badFileHead h = h
+
 abbrev pub dialectTo : FileReading → ℕ → ℕ
 dialectTo (fileHead e d c) h = d
 dialectTo badFileHead h = h

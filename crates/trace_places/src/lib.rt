@@ -6,7 +6,7 @@ use trace_writer::Writing;
 ghost use mathlib.Core.Path.{_≡_};
 ghost use Rattle.trace_writer.specs.Answers.{writtenOf};
 ghost use Rattle.trace_reader.specs.Answers.{fileReadingOf, readingOf};
-ghost use Rattle.trace_places.specs.Places.{writtenNumber, placeBehind, fileNumber, dialectTo, cipherTo};
+ghost use Rattle.trace_places.specs.Places.{writtenNumber, placeBehind, fileNumber, editionTo, dialectTo, cipherTo};
 ghost use Rattle.trace_places.specs.Places.{readingNumber, kindTo, fromServerTo, payloadTo, lengthTo, nextTo};
 
 pub fn written_number(w: Writing) -> u32
@@ -34,6 +34,15 @@ pub fn head_number(h: FileHead) -> u32
     match h {
         FileHead::Good { .. } => 0,
         FileHead::Unreadable => 36,
+    }
+}
+
+pub fn edition_to(h: FileHead, lent: u8) -> u8
+    ensures { λ r. ⌜ r ≡ editionTo (fileReadingOf h) lent ⌝ }
+{
+    match h {
+        FileHead::Good { edition, .. } => edition,
+        FileHead::Unreadable => lent,
     }
 }
 

@@ -40,7 +40,8 @@ pub record WritingThenReading : Type 0 where
   -- every file of records that the writer of its edition accepts
   pub file-read : (n d c : ℕ) (rs : List Record) → n < 256 → d < 65536 → headReadable n c ≡ true → allWritable (editionOf n) rs ≡ true
       → (readFileHead (fileOf n d c rs) ≡ fileHead n d c) × (readAll (editionOf n) (drop 4 (fileOf n d c rs)) ≡ record { records = rs; rest = [] })
-  -- and of any bytes: what was read, written again, and what is left are those bytes; the writer accepts every record that was read
+  -- and of any bytes, in the layout of each edition: what was read, written again, and what is left are those bytes, and all of it is writable.
+  -- The writer has edition 2 alone
   pub written-again : (n : ℕ) (s : Bytes) → Octets s → let c = readAll (editionOf n) s in
       (recordsBytes (editionOf n) (c .records) ++ c .rest ≡ s) × (allWritable (editionOf n) (c .records) ≡ true)
 
