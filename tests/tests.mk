@@ -46,7 +46,7 @@ $(MUTANTS): $(BUILD)/mutants/%: $(BUILD)/plain/%.o $(SHARED:%=$(BUILD)/plain/%.o
 outside: setup-test
 	@$(MAKE) --silent --no-print-directory NO_SETUP=1 outside-tests
 
-outside-tests: consistency examples packaging rust symbols programs replay rescue valgrind mutants tshark
+outside-tests: consistency examples packaging rust symbols programs replay rescue unix faults valgrind mutants tshark
 
 # Pages, lists and vectors agree with each other and with the tree.
 consistency:
@@ -82,6 +82,14 @@ replay: dist/smb3seal-replay
 RESCUED = 20000
 rescue: dist/smb3seal-rescue
 	@scripts/test-with "the rescue beside one in Python" python3-cryptography -- tests/rescue_check.py $< $(RESCUED)
+
+# Both as Unix programs: arguments, names, a full standard output, the status for scripts.
+unix: all
+	@scripts/test-with "the two programs as Unix programs" python3-cryptography -- tests/programs_check.py dist
+
+# And with each of their calls made to fail.
+faults: all
+	@scripts/test-with "calls of the two programs that fail" python3-cryptography strace -- tests/programs_check.py dist faults
 
 valgrind:
 	@scripts/test-with "the C tests under valgrind" libssl-dev valgrind -- $(AGAIN) run-valgrind
@@ -138,5 +146,5 @@ coverage: setup-test
 	scripts/archive-coverage $(ARCHIVE) $(BUILD)/coverage $(BUILD)/plain/vectors_test $(BUILD)/plain/lengths_test \
 	    "$(BUILD)/plain/random_test 1 $(VALGRIND_CASES)" "$(BUILD)/plain/table_test 1 $(VALGRIND_LISTS)"
 
-.PHONY: outside outside-tests consistency symbols programs replay rescue valgrind mutants tshark run-programs run-valgrind run-mutants run-tshark
+.PHONY: outside outside-tests consistency symbols programs replay rescue unix faults valgrind mutants tshark run-programs run-valgrind run-mutants run-tshark
 .PHONY: fuzz samba coverage
