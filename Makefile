@@ -1,4 +1,4 @@
-# make             the archive, the headers, smb3seal-replay, smb3seal-rescue and the manual pages, into dist/
+# make             the archive, the headers, the programs for lab traces and the manual pages, into dist/
 # make demo        a published session, from negotiate to an opened response, step by step
 # make examples    the examples and the demo, run and compared
 # make packaging   headers, symbols, shared object, manual page, install and uninstall, packages: checked
@@ -17,7 +17,8 @@ ARCHIVE = target/staticlib/libsmb3seal.a
 PRIMITIVES = target/staticlib/libtest_primitives.a
 BUILD = target/c
 
-TOOLS = smb3seal-replay smb3seal-rescue
+PROVED_TOOLS = smb3seal-replay smb3seal-rescue
+TOOLS = $(PROVED_TOOLS) smb3seal-status smb3seal-explain
 all: dist/libsmb3seal.a dist/smb3seal.h dist/smb3seal_text.h dist/smb3seal.3 $(TOOLS:%=dist/%) $(TOOLS:%=dist/%.1)
 
 # rt decides by itself what has to be proved again, and runs its own jobs beside each other.
@@ -37,9 +38,18 @@ target/bin/%: $(RATTLE)
 	@rt check $* > target/$*.log 2>&1 || { cat target/$*.log; exit 1; }
 	@touch $@
 
-$(TOOLS:%=dist/%): dist/smb3seal-%: target/bin/%
+$(PROVED_TOOLS:%=dist/%): dist/smb3seal-%: target/bin/%
 	@mkdir -p dist
 	cp $< $@
+
+# What is not proved: a script that makes a status of what these write, and a reader's aid in C over the library's calls.
+dist/smb3seal-status: tools/smb3seal-status
+	@mkdir -p dist
+	cp $< $@
+
+dist/smb3seal-explain: tools/smb3seal-explain.c include/smb3seal.h include/smb3seal_text.h $(ARCHIVE)
+	@mkdir -p dist
+	$(CC) $(WARNINGS) $(CFLAGS) -Iinclude $< $(ARCHIVE) -o $@
 
 dist/%.1: packaging/%.1
 	@mkdir -p dist

@@ -2,12 +2,15 @@
  * demo [ccm [TRACE]]: the session that Microsoft published in "SMB 3.1.1 Encryption in Windows 10", from negotiate to an opened READ
  * response: appendix A.1 (AES-128-GCM), or with `ccm` appendix A.2 (AES-128-CCM; any other word is A.1). What the library computes is
  * compared with what is published, and the exit status is 1 if anything differs. The session is recorded as a lab trace, and written to
- * the file TRACE for smb3seal-replay.
+ * the new file TRACE for smb3seal-replay. It holds the session's key: it is made for its owner alone.
  */
+#define _POSIX_C_SOURCE 200809L
+#include <fcntl.h>
 #include <smb3seal.h>
 #include <smb3seal_text.h>
 #include <stdio.h>
 #include <string.h>
+#include <unistd.h>
 
 #include "smb3_vectors.h"
 
@@ -214,6 +217,23 @@ static uint32_t record_session(const struct session *s, uint8_t *trace, size_t *
     return number;
 }
 
+/* Whether the trace is in a new file. Rights that are given when a file is made hold before its first byte; a file that is there is left. */
+static int write_trace(const char *path, const uint8_t *trace, size_t len)
+{
+    int fd = open(path, O_WRONLY | O_CREAT | O_EXCL, S_IRUSR | S_IWUSR);
+    FILE *file = fd >= 0 ? fdopen(fd, "wb") : NULL;
+    if (file == NULL) {
+        perror(path);
+        if (fd >= 0) close(fd);
+        return 0;
+    }
+    int written = fwrite(trace, 1, len, file) == len;
+    if (fclose(file) == 0 && written) return 1;
+    perror(path);
+    unlink(path);
+    return 0;
+}
+
 static void show_trace(const struct session *s, const char *path)
 {
     static const char *const kinds[] = {"negotiate", "session setup", "sealed", "lab session"};
@@ -228,9 +248,7 @@ static void show_trace(const struct session *s, const char *path)
                payload_len, payload);
     if (number != SMB3SEAL_DONE || at != end || records != s->folds + 1 + s->transforms) different++;
     compared++;
-    FILE *file = path != NULL ? fopen(path, "wb") : NULL;
-    if (path != NULL && (file == NULL || fwrite(trace, 1, end, file) != end)) different++;
-    if (file != NULL && fclose(file) != 0) different++;
+    if (path != NULL && !write_trace(path, trace, end)) different++;
 }
 
 int main(int argc, char **argv)

@@ -21,7 +21,9 @@ examples: setup-build
 	@for p in $(EXAMPLE_PROGRAMS); do e=$${p##*/}; scripts/same-output examples/$${e%_sanitized}.out $$p || exit 1; done
 	@scripts/same-output examples/demo_ccm.out $(BUILD)/examples/demo ccm
 	@$(MAKE) --silent --no-print-directory dist/smb3seal-replay dist/smb3seal-rescue
-	@for c in gcm ccm; do $(BUILD)/examples/demo $$c $(BUILD)/demo_$$c.trace > $(BUILD)/demo_$$c.log || exit 1; \
+	@for c in gcm ccm; do rm -f $(BUILD)/demo_$$c.trace; \
+	    (umask 0; $(BUILD)/examples/demo $$c $(BUILD)/demo_$$c.trace > $(BUILD)/demo_$$c.log) || exit 1; \
+	    test "$$(stat -c %a $(BUILD)/demo_$$c.trace)" = 600 || { echo "others may read the demo's trace"; exit 1; }; \
 	    scripts/same-output examples/demo_replay.out dist/smb3seal-replay $(BUILD)/demo_$$c.trace || exit 1; done
 	@scripts/same-output examples/rescue.out examples/rescue $(BUILD)/demo_gcm.trace $(BUILD)/rescue
 

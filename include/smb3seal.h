@@ -676,10 +676,18 @@ uint32_t smb3seal_table_open(const struct smb3seal_session *table, size_t table_
 /*
  * ---- lab traces
  *
- * A lab trace is a file of what passed on one connection: a head with its dialect and cipher, then records. A program that owns the
- * socket records the messages in the order in which they passed, and for each session whose messages are to be opened in the lab, where
- * its setup is done, one record with its id and its key. The trace then holds the session's key: whoever has it opens every recorded
- * message, and can make new ones. Record in a lab alone, with accounts made for it, and keep and delete a trace as you would the key.
+ * A lab trace is a file of what passed on one connection: a head with its dialect and cipher, then records. A replay has one session
+ * chain: every setup message is folded into it, and behind each negotiate message and each lab session it begins again as a copy of the
+ * connection's. So the trace is not always in the order of the wire. A program that owns the socket records
+ *
+ * - the negotiate messages, in their order;
+ * - of each login, when it has succeeded, its setup messages in their order and right behind them one lab session with its id and its
+ *   key, with no setup message of another login between them. Until then the program keeps them; those of a login that failed it leaves
+ *   out. Where they are wanted in the trace, a lab session with id 0 behind them begins the chain again: it answers 20 and adds nothing;
+ * - the sealed messages as they pass, each behind the lab session of its session.
+ *
+ * The trace then holds the session's key: whoever has it opens every recorded message, and can make new ones. Record in a lab alone, with
+ * accounts made for it, make the file readable for its owner alone, and keep and delete it as you would the key.
  *
  * The calls work on a buffer that the program reads from a file or writes to one, of any length. A record's place is counted from the
  * start of the trace.

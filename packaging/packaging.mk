@@ -15,7 +15,7 @@ INSTALLED = $(HEADERS:%=$(INCLUDEDIR)/%) $(LIBDIR)/libsmb3seal.a $(LIBDIR)/pkgco
 
 # Copies what `make` built, so that it can be run by a user who has no rt.
 install:
-	@test -f dist/libsmb3seal.a -a -f dist/smb3seal.3 -a -f dist/smb3seal-replay -a -f dist/smb3seal-rescue || $(MAKE) --no-print-directory all
+	@for f in libsmb3seal.a smb3seal.3 $(TOOLS); do test -f dist/$$f || { $(MAKE) --no-print-directory all; break; }; done
 	install -d -m 755 $(DESTDIR)$(INCLUDEDIR) $(DESTDIR)$(LIBDIR)/pkgconfig $(DESTDIR)$(MANDIR)/man3 \
 		$(DESTDIR)$(BINDIR) $(DESTDIR)$(MANDIR)/man1
 	install -m 644 $(HEADERS:%=dist/%) $(DESTDIR)$(INCLUDEDIR)

@@ -1,8 +1,9 @@
 #!/usr/bin/env python3
 """replay_check PROGRAM [TRACES [SEED]]: the program smb3seal-replay beside tests/trace_model.py, on traces that are random, damaged and cut.
 
-Every cut of a small trace, then random ones, of both editions: records of every kind and direction, at lengths around each limit; bits
-changed, bytes taken out, put in or cut off. Each trace is given as a file or on the standard input, and the lines are compared. The first difference ends it.
+Every cut of a small trace, traces longer than what the program holds at once, then random ones, of both editions: records of every kind and
+direction, at lengths around each limit; bits changed, bytes taken out, put in or cut off. Each trace is given as a file, on the
+standard input or by a pipe, and the lines are compared; nothing may be on standard error. The first difference ends it.
 """
 import os
 import random
@@ -124,6 +125,25 @@ def long_payloads():
         yield from (head + model.record(2, False, bytes(n), edition) + bytes(4) for n in (65537, longest + 1))
 
 
+def through_the_window():
+    """More than the program holds at once: records of many sizes across its borders, the longest that is held behind short ones, one that is
+    not held between others, and each of these cut off near the end of what was read."""
+    for edition in model.EDITIONS:
+        head = model.file_head(0x0311, 2, edition)
+        for size in (1, 61, 64, 4092, 4093, 16381, 32766, 32767, 65531, 65532, 65535, 65536):
+            kinds = [model.record(n % 2, n % 3 == 0, bytes([n % 256]) * size, edition) for n in range(min(30, 200000 // (size + 4)))]
+            yield head + b"".join(kinds)
+        short, longest = model.record(1, False, bytes(64), edition), model.record(0, True, bytes(65536), edition)
+        passed = model.record(2, True, bytes(65537), edition)
+        yield head + short + longest + short + longest
+        yield head + (short + passed) * 3 + short
+        yield head + passed + passed
+        yield from ((head + short + longest + short)[:-n] for n in (1, 67, 68, 69, 4096, 65535, 65539, 65540, 65541))
+        yield from ((head + short + passed + short)[:-n] for n in (1, 67, 68, 69, 70, 65604, 65608, 65609))
+        # more lines than are written at once
+        yield head + model.record(1, False, b"x", edition) * 3000
+
+
 def named_traces():
     head = model.file_head(0x0311, 2)
     yield from (b"", head[:1], head[:3], head, head + bytes(2), *(model.file_head(0x0311, 2, edition) for edition in range(5)))
@@ -133,15 +153,19 @@ def named_traces():
         yield bytes([3 - small[0]]) + small[1:]
     yield full_table()
     yield from long_payloads()
+    yield from through_the_window()
 
 
-def lines(program, trace, path, by_name):
-    with open(path, "wb") as f:
-        f.write(trace)
-    if by_name:
-        return subprocess.run([program, path], stdin=subprocess.DEVNULL, capture_output=True).stdout.decode()
-    with open(path, "rb") as f:
-        return subprocess.run([program], stdin=f, capture_output=True).stdout.decode()
+def lines(program, trace, path, how):
+    """What is written: of a file by its name, of a file on the standard input, or of a pipe."""
+    if how == 2:
+        run = subprocess.run([program], input=trace, capture_output=True)
+    else:
+        with open(path, "wb") as f:
+            f.write(trace)
+        with open(path, "rb") as f:
+            run = subprocess.run([program] + [path][how:], stdin=f, capture_output=True)
+    return (run.stdout + run.stderr).decode()
 
 
 def main():
@@ -153,7 +177,7 @@ def main():
         named = list(named_traces())
         for number in range(count):
             trace = named[number] if number < len(named) else random_trace(rng)
-            expected, got = model.replay(trace), lines(program, trace, path, number % 2 == 0)
+            expected, got = model.replay(trace), lines(program, trace, path, number % 3)
             if expected != got:
                 sys.exit(f"trace {number}, seed {seed}: {trace[:2000].hex()}\nexpected:\n{expected}\nwritten:\n{got}")
             done, stopped = done + 1, stopped + ("stop" in got)

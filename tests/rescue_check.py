@@ -111,6 +111,8 @@ class Program:
         run = subprocess.run([self.path, self.input, self.output], stdin=subprocess.DEVNULL, capture_output=True, check=True)
         if run.stderr:
             sys.exit(f"an error: {run.stderr.decode()}")
+        if len(os.listdir(os.path.dirname(self.output))) != 1 + os.path.exists(self.output):
+            sys.exit("a file that nobody asked for is left")
         if not os.path.exists(self.output):
             return None, run.stdout.decode()
         if os.stat(self.output).st_mode & 0o777 != 0o600:
@@ -151,7 +153,7 @@ def taken_name(program):
         f.write(b"mine")
     run = subprocess.run([program.path, program.input, program.output], capture_output=True)
     with open(program.output, "rb") as f:
-        if f.read() != b"mine" or run.stdout or not run.stderr:
+        if f.read() != b"mine" or run.stdout or not run.stderr.startswith(b"smb3seal-rescue: "):
             sys.exit("an output file that was there")
 
 

@@ -52,7 +52,7 @@ outside-tests: consistency all $(PRIMITIVES) $(BUILD)/smb3_vectors.h
 	@scripts/two-lanes "$(AGAIN) library-lane" "$(AGAIN) program-lane"
 
 library-lane: symbols programs valgrind mutants tshark
-program-lane: examples packaging rust replay rescue
+program-lane: examples packaging rust replay rescue unix faults
 
 # Pages, lists and vectors agree with each other and with the tree.
 consistency:
@@ -87,6 +87,14 @@ replay: dist/smb3seal-replay
 RESCUED = 20000
 rescue: dist/smb3seal-rescue
 	@scripts/test-with "the rescue beside one in Python" python3-cryptography -- tests/rescue_check.py $< $(RESCUED)
+
+# Both as Unix programs: arguments, names, a full standard output, the status for scripts.
+unix: all
+	@scripts/test-with "the two programs as Unix programs" python3-cryptography -- tests/programs_check.py dist
+
+# And with each of their calls made to fail.
+faults: all
+	@scripts/test-with "calls of the two programs that fail" python3-cryptography strace -- tests/programs_check.py dist faults
 
 valgrind:
 	@scripts/test-with "the C tests under valgrind" libssl-dev valgrind -- $(AGAIN) run-valgrind
@@ -143,5 +151,6 @@ coverage: setup-test
 	scripts/archive-coverage $(ARCHIVE) $(BUILD)/coverage $(BUILD)/plain/vectors_test $(BUILD)/plain/lengths_test \
 	    "$(BUILD)/plain/random_test 1 $(VALGRIND_CASES)" "$(BUILD)/plain/table_test 1 $(VALGRIND_LISTS)"
 
-.PHONY: outside outside-tests library-lane program-lane consistency symbols programs replay rescue valgrind mutants tshark run-programs run-valgrind run-mutants run-tshark
+.PHONY: outside outside-tests library-lane program-lane consistency symbols programs replay rescue unix faults valgrind mutants tshark
+.PHONY: run-programs run-valgrind run-mutants run-tshark
 .PHONY: fuzz samba coverage

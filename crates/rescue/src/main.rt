@@ -1,94 +1,100 @@
 // smb3seal-rescue INPUT OUTPUT: copies the good records of a damaged lab trace (RULES 17) into a new file, and writes a line for each gap:
 // the place of its first byte in the input, a space, how many bytes are dropped. To an input of more than 65,536 bytes it writes "long", to
-// one whose file head cannot be read "stop 0", and then makes no file.
+// one whose file head cannot be read "stop 0", and then makes no file. What fails is said on standard error, and then there is no new file.
+mod output;
+
 use libc::STDOUT_FILENO;
+use output::answer;
+use output::complain;
+use output::write_new;
+use program_files::gather;
+use program_text::front;
 use trace_rescue::Rescuing;
+ghost use mathlib.Core.Path.{_≡_};
+ghost use lib.Dec.{ltb};
 
-// The first n bytes, or all.
-fn front(b: &[u8], n: usize) -> &[u8] {
-    if n <= b.len() { &b[..n] } else { b }
-}
+// One byte more than the program takes.
+const ROOM: usize = 65537;
 
-fn say(words: &[u8]) {
-    io::write_all(STDOUT_FILENO, words);
-}
-
-fn line(place: u64, dropped: u64) {
-    io::print_decimal(STDOUT_FILENO, place);
-    say(b" ");
-    io::print_decimal(STDOUT_FILENO, dropped);
-    say(b"\n");
-}
-
-// A line for each gap of the list.
-fn show(list: &[u64], gaps: usize) {
-    let mut i: usize = 0;
-    while i < gaps {
-        if list.len() / 2 <= i {
-            return;
-        }
-        line(list[2 * i], list[2 * i + 1]);
-        i += 1;
-    }
-}
-
-// Whether a new file was made of these bytes. It holds keys, so that it is for its owner alone.
-fn write_new(path: &[u8], bytes: &[u8]) -> bool {
-    let fd = os::create(path);
-    if fd < 0 {
-        os::fail(path);
-        return false;
-    }
-    libc::fchmod(fd, 0o600);
-    let all = io::write_all(fd, bytes);
-    if !all {
-        os::fail(path);
-    }
-    libc::close(fd);
-    all
+fn is_long(n: usize) -> bool
+    ensures { λ r. ⌜ r ≡ ltb 65536 n ⌝ }
+{
+    65536 < n
 }
 
 // Of an input of at most 65,536 bytes no more come out, with at most 7,282 gaps (`enough-room`): an unreadable file head alone is refused.
-fn rescue(input: &[u8], output: &[u8]) {
+fn rescue(input: &[u8], to: &[u8]) {
     let mut room = io::large_buffer();
-    let mut list = [0u64; 16384];
+    let mut list = [0u64; 14564];
     let Rescuing::Done { written, gaps } = trace_rescue::rescue(input, &mut room, &mut list) else {
-        say(b"stop 0\n");
+        answer(b"stop 0\n");
         return;
     };
-    if write_new(output, front(&room, written)) {
-        show(&list, gaps);
+    let mut text = [0u8; 305844];
+    let n = program_text::gap_lines(&mut text, &list, gaps);
+    if write_new(to, front(&room, written)) {
+        answer(front(&text, n));
     }
 }
 
-// Whether there is a byte more to read.
-fn more(fd: i32) -> bool {
-    let mut one = [0u8; 1];
-    let n = io::read_full(fd, &mut one);
-    n != 0
-}
-
+// All of the input is read before anything else is done: a read that fails makes no file.
 fn rescue_file(from: &[u8], to: &[u8]) {
     let fd = os::open_read(from);
     if fd < 0 {
-        os::fail(from);
+        complain(from);
         return;
     }
-    let mut input = io::large_buffer();
-    let n = io::read_full(fd, &mut input);
-    let long = more(fd);
+    let mut input = [0u8; ROOM];
+    let g = gather(fd, &mut input, ROOM);
+    if g.failed {
+        complain(from);
+        libc::close(fd);
+        return;
+    }
     libc::close(fd);
-    if long {
-        say(b"long\n");
+    let have = g.have;
+    if is_long(have) {
+        answer(b"long\n");
         return;
     }
-    rescue(front(&input, n), to);
+    rescue(front(&input, have), to);
+}
+
+fn usage(fd: i32) {
+    io::write_all(fd, b"usage: smb3seal-rescue INPUT OUTPUT\n");
+}
+
+// One argument that is no file, or too few of them.
+fn rescue_nothing() {
+    let mut word = io::buffer();
+    let n = os::arg(1, &mut word);
+    if program_text::asks_help(front(&word, n)) {
+        usage(STDOUT_FILENO);
+        return;
+    }
+    if program_text::asks_version(front(&word, n)) {
+        answer(b"smb3seal-rescue 0.11.0\n");
+        return;
+    }
+    usage(libc::STDERR_FILENO);
 }
 
 fn main() {
+    if os::arg_count() != 3 {
+        rescue_nothing();
+        return;
+    }
     let mut from = io::buffer();
     let n = os::arg(1, &mut from);
+    if os::errno() != 0 {
+        complain(b"INPUT");
+        return;
+    }
     let mut to = io::buffer();
     let m = os::arg(2, &mut to);
+    if os::errno() != 0 {
+        complain(b"OUTPUT");
+        return;
+    }
     rescue_file(front(&from, n), front(&to, m));
 }

@@ -1,17 +1,23 @@
--- Right because each turn goes on in the file.
+-- Right because the loop counts down; what each turn leaves its own contract says.
 -- Assumes nothing.
-use Prim.Native.Nat.{_-_, _<_}
-use lib.ListN.{length}
-use mathlib.Core.Path.{_≡_, refl}
+use mathlib.Core.Path.{_≡_, refl, _∙_}
 use native.Mathlib.Omega.{arith}
+use lib.ListN.{length}
 use Rattle.replay.proofs.records.Statement.{statement}
 use Rattle.replay.proofs.records.Tie as tie
 
 abbrev Inv-loop : tie.InvT-loop
-Inv-loop fd edition window₀ lab₀ place₀ index₀ window lab place index = (length window ≡ length window₀) × (place < 18446744073709551616)
+Inv-loop fd name edition window₀ text₀ lab₀ p₀ turns₀ window text lab p turns = (length window ≡ length window₀) × (length text ≡ length text₀)
 
 abbrev μ-loop : tie.MeasureT-loop
-μ-loop fd edition window₀ lab₀ place₀ index₀ window lab place index = 18446744073709551616 - place
+μ-loop fd name edition window₀ text₀ lab₀ p₀ turns₀ window text lab p turns = turns
+
+loop-again : tie.Need-loop-again Inv-loop μ-loop
+loop-again c =
+    let t = c .before .before .before .before .before .before .turn .kept in
+    let r = c .before .before .before .before .before .before .before .before .before .before .before .before .before .before .ready .kept in
+    let i = c .before .before .before .before .before .before .before .before .before .before .before .before .before .before .before .before .before .before .loop .inv in
+    (t .1 .1 .1 .0 ∙ r .1 .1 .1 .1 .0 ∙ i .0, t .1 .1 .1 .1 .0 ∙ r .1 .1 .1 .1 .1 .0 ∙ i .1)
 
 pub records-spec : {M : Type 1} → statement M
 records-spec =
@@ -19,14 +25,15 @@ records-spec =
     (tie.spec
     Inv-loop
     μ-loop
-    (λ c. (refl, omega arith))
+    (λ c. (refl, refl))
     (λ c κs. tt)
-    (λ c κs. tt)
+    (λ c. omega arith)
     (λ c. omega arith)
     (λ c. tt)
     (λ c κs. tt)
     (λ c. omega arith)
-    (λ c. tt)
-    (λ c κs. tt)
     (λ c. omega arith)
-    (λ c. (omega arith, omega arith)))
+    loop-again
+    (λ c. omega arith)
+    (λ c. omega arith)
+    (λ c. tt))
