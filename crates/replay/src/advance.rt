@@ -12,9 +12,12 @@ use trace_window::next;
 use trace_window::passed_over;
 use trace_window::took;
 ghost use mathlib.Core.Path.{_≡_};
-ghost use mathlib.Core.Bool.{true, _||_};
+ghost use mathlib.Core.Bool.{true, false, _||_};
+ghost use Rattle.program_text.specs.Lines.{longLine, stopLine};
+ghost use Rattle.program_text.specs.Puts.{PutLine};
 ghost use Rattle.trace_format.specs.Format.{editionOf};
-ghost use Rattle.trace_window.specs.Window.{nextOf};
+ghost use Rattle.trace_window.specs.Window.{nextOf, behind};
+ghost use Rattle.trace_window.specs.Window.{begun as longBegun};
 ghost use Rattle.replay.specs.Turning.{isTurn};
 
 pub fn complain(what: &[u8]) {
@@ -81,8 +84,23 @@ fn read_on(fd: i32, name: &[u8], p: Progress, window: &mut [u8], text: &[u8]) ->
     }
 }
 
+// A long record begins, with a payload of n bytes.
+fn begins_long(p: Progress, n: usize) -> Progress
+    ensures { λ r. ⌜ ((r .cursor ≡ longBegun n (p .cursor)) × (r .used ≡ p .used)) × (r .over ≡ p .over) ⌝ }
+{
+    let c = p.cursor;
+    Progress {
+        cursor: begun(c, n),
+        used: p.used,
+        over: p.over,
+    }
+}
+
 // A long record that was passed over: its line, and the record behind it.
-fn long(p: Progress, text: &mut [u8]) -> Progress {
+fn long(p: Progress, text: &mut [u8]) -> Progress
+    ensures { λ r. ⌜ PutLine (longLine (p .cursor .index)) (now (text .entry)) (p .used) (r .used) (now (text .exit)) ⌝ }
+    ensures { λ r. ⌜ (r .cursor ≡ behind (p .cursor .size) (p .cursor .at) (p .cursor)) × (r .over ≡ false) ⌝ }
+{
     let c = p.cursor;
     let used = long_line(text, p.used, c.index);
     Progress {
@@ -93,7 +111,10 @@ fn long(p: Progress, text: &mut [u8]) -> Progress {
 }
 
 // A long record that is cut off: the replay stops at its place.
-fn cut_off(p: Progress, text: &mut [u8]) -> Progress {
+fn cut_off(p: Progress, text: &mut [u8]) -> Progress
+    ensures { λ r. ⌜ PutLine (stopLine (p .cursor .place)) (now (text .entry)) (p .used) (r .used) (now (text .exit)) ⌝ }
+    ensures { λ r. ⌜ (r .cursor ≡ p .cursor) × (r .over ≡ true) ⌝ }
+{
     let c = p.cursor;
     let used = stop_line(text, p.used, c.place);
     Progress {
@@ -127,14 +148,7 @@ fn one_step(
     match n {
         Step::Turn => p,
         Step::Read => read_on(fd, name, p, window, text),
-        Step::Begin(size) => {
-            let c = p.cursor;
-            Progress {
-                cursor: begun(c, size),
-                used: p.used,
-                over: p.over,
-            }
-        }
+        Step::Begin(payload) => begins_long(p, payload),
         Step::Passed => long(p, text),
         Step::CutOff => cut_off(p, text),
     }
