@@ -8,6 +8,7 @@ The first difference ends it.
 """
 import fcntl
 import os
+import pty
 import re
 import subprocess
 import sys
@@ -158,6 +159,10 @@ def check_closed(replay):
     expect(out == "" and said(replay, err, "standard input", "Bad file descriptor"), "no standard input", out, err)
     with open(os.devnull, "rb") as nothing:
         expect(run([replay], stdin=nothing)[1:] == ("stop 0\n", ""), "an empty standard input")
+    terminal, end = pty.openpty()
+    expect(run([replay], stdin=end)[1:] == ("", "usage: smb3seal-replay [FILE]\n"), "a terminal as standard input")
+    os.close(end)
+    os.close(terminal)
 
 
 def byte_by_byte(program, content):
