@@ -104,10 +104,14 @@ by-2 n g = by (leb g (n / 2)) refl
 pub gaps-fit : (text list gaps : ℕ) → (leb gaps (text / 42) && leb gaps (list / 2)) ≡ gapsFit text list gaps
 gaps-fit text list gaps = ap₂ _&&_ (by-42 text gaps) (by-2 list gaps)
 
-pub gaps-room : (text list gaps : ℕ) → gapsFit text list gaps ≡ true → (42 * gaps ≤ text) × (2 * gaps ≤ list)
+gaps-room : (text list gaps : ℕ) → gapsFit text list gaps ≡ true → (42 * gaps ≤ text) × (2 * gaps ≤ list)
 gaps-room text list gaps e =
     let b = and-true (leb (42 * gaps) text) (leb (2 * gaps) list) e in
     (leb-true (42 * gaps) text (b .0), leb-true (2 * gaps) list (b .1))
+
+pub gaps-listed : {r : Bool} (text list : List ℕ) (gaps : ℕ) → r ≡ gapsFit (length text) (length list) gaps → not r ≡ false
+    → (42 * gaps ≤ length text) × (2 * gaps ≤ length list)
+gaps-listed text list gaps e t = gaps-room (length text) (length list) gaps (passed e t)
 
 pub short : (a b : ℕ) → length (twoNumbers a b) ≤ 42
 unfolding twoNumbers

@@ -43,8 +43,9 @@ lent e s n p m w f w′ t em lf turns ew lw =
     let em′ : m ≡ min n (length w′) = omega arith in
     let front : take n w′ ≡ f = sym (take-least n w′) ∙ ap (λ (k : ℕ). take k w′) (sym em′) ∙ ap (take m) ew ∙ take-at f (drop m w) m long in
     let back : drop n w′ ≡ drop m w = sym (drop-least n w′) ∙ ap (λ (k : ℕ). drop k w′) (sym em′) ∙ ap (drop m) ew ∙ drop-at f (drop m w) m long in
+    let after = subst (λ (x : Bytes). Turns (readAt e (take m w) p) s (take m w) x p t) (sym front) turns in
     record {
-      turns = subst (λ (x : Bytes). Turns (readAt e x p) s x (take n w′) p t) same (subst (λ (x : Bytes). Turns (readAt e (take m w) p) s (take m w) x p t) (sym front) turns);
+      turns = subst (λ (x : Bytes). Turns (readAt e x p) s x (take n w′) p t) same after;
       rest = back ∙ ap (λ (k : ℕ). drop k w) em ∙ drop-least n w;
     }
 

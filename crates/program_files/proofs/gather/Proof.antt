@@ -23,7 +23,8 @@ returns : tie.Need-returns Inv-loop μ-loop
 returns c =
     let r = c .before .before .before .before .read-behind in
     let l = c .before .before .before .before .before .before .before in
-    record { inside = omega (arith, r .kept .1 .0, l .loop .inv .0); enough = ended-or-failed (leb (l .before .before .args .n) (l .loop .have)) (r .result .failed) }
+    let there = leb (l .before .before .args .n) (l .loop .have) in
+    record { inside = omega (arith, r .kept .1 .0, l .loop .inv .0); enough = ended-or-failed there (r .result .failed) }
 
 add-have : tie.Need-add-have Inv-loop μ-loop
 add-have c =

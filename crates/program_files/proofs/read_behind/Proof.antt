@@ -12,9 +12,11 @@ returns-2 : tie.Need-returns-2
 returns-2 c =
     let a = c .before .before .before .before .before .before .args in
     let r = c .before .before .read-once in
+    let w = a .window .now in
+    let h = c .before .before .before .before .if1 .left in
     record {
-      some = inside-part (a .window .now) (r .last .1 .0) (a .have) (r .result .n) (r .ensures) (r .kept .1 .0);
-      before = before-part (a .window .now) (r .last .1 .0) (a .have) (length (a .window .now) - a .have) (omega (arith, c .before .before .before .before .if1 .left));
+      some = inside-part w (r .last .1 .0) (a .have) (r .result .n) (r .ensures) (r .kept .1 .0);
+      before = before-part w (r .last .1 .0) (a .have) (length w - a .have) (omega (arith, h));
     }
 
 pub read-behind-spec : {M : Type 1} → statement M

@@ -14,9 +14,11 @@ abbrev μ-loop : tie.MeasureT-loop
 
 loop-again : tie.Need-loop-again Inv-loop μ-loop
 loop-again c =
-    let t = c .before .before .before .before .before .before .turn .kept in
-    let r = c .before .before .before .before .before .before .before .before .before .before .before .before .before .before .ready .kept in
-    let i = c .before .before .before .before .before .before .before .before .before .before .before .before .before .before .before .before .before .before .loop .inv in
+    let k = c .before .before .before .before .before .before in
+    let t = k .turn .kept in
+    let j = k .before .before .before .before .before .before .before .before in
+    let r = j .ready .kept in
+    let i = j .before .before .before .before .loop .inv in
     (t .1 .1 .1 .0 ∙ r .1 .1 .1 .1 .0 ∙ i .0, t .1 .1 .1 .1 .0 ∙ r .1 .1 .1 .1 .1 .0 ∙ i .1)
 
 pub records-spec : {M : Type 1} → statement M

@@ -7,7 +7,10 @@ use Rattle.trace_window.proofs.begun.Statement.{statement}
 use Rattle.trace_window.proofs.begun.Tie as tie
 
 returns : tie.Need-returns
-returns c = let a = c .before .before .args in c .passed .ensures ∙ begun-by (a .c) (a .n) (c .before .wrapping-add-usize .result) (c .before .wrapping-add-usize .ensures)
+returns c =
+    let a = c .before .before .args in
+    let sum = c .before .wrapping-add-usize in
+    c .passed .ensures ∙ begun-by (a .c) (a .n) (sum .result) (sum .ensures)
 
 pub begun-spec : {M : Type 1} → statement M
 begun-spec =

@@ -17,34 +17,40 @@ abbrev μ-loop : tie.MeasureT-loop
 add-bytes : tie.Need-add-bytes Inv-loop μ-loop
 add-bytes c =
     let a = c .before .before .before .before .before .args in
+    let e = c .before .before .less .ensures ∙ ap (λ (x : ℕ). x - a .at) (c .before .before .before .least .ensures) in
     let i = c .before .loop .inv in
-    omega (arith, moving-from (a .have) (c .before .before .less .ensures ∙ ap (λ (x : ℕ). x - a .at) (c .before .before .before .least .ensures)) i (c .loop-test .taken), i .kept)
+    omega (arith, moving-from (a .have) e i (c .loop-test .taken), i .kept)
 
 slice-read-bytes : tie.Need-slice-read-bytes Inv-loop μ-loop
 slice-read-bytes c =
     let a = c .before .before .before .before .before .before .args in
-    moving-from (a .have) (c .before .before .before .less .ensures ∙ ap (λ (x : ℕ). x - a .at) (c .before .before .before .before .least .ensures)) (c .before .before .loop .inv) (c .before .loop-test .taken)
+    let e = c .before .before .before .less .ensures ∙ ap (λ (x : ℕ). x - a .at) (c .before .before .before .before .least .ensures) in
+    moving-from (a .have) e (c .before .before .loop .inv) (c .before .loop-test .taken)
 
 slice-write-bytes : tie.Need-slice-write-bytes Inv-loop μ-loop
 slice-write-bytes c =
     let a = c .before .before .before .before .before .before .args in
-    moving-to (a .have) (c .before .before .before .less .ensures ∙ ap (λ (x : ℕ). x - a .at) (c .before .before .before .before .least .ensures)) (c .before .before .loop .inv) (c .before .loop-test .taken)
+    let e = c .before .before .before .less .ensures ∙ ap (λ (x : ℕ). x - a .at) (c .before .before .before .before .least .ensures) in
+    moving-to (a .have) e (c .before .before .loop .inv) (c .before .loop-test .taken)
 
 add-j : tie.Need-add-j Inv-loop μ-loop
 add-j c =
     let a = c .before .before .before .before .before .before .args in
+    let e = c .before .before .before .less .ensures ∙ ap (λ (x : ℕ). x - a .at) (c .before .before .before .before .least .ensures) in
     let i = c .before .before .loop .inv in
-    omega (arith, moving-to (a .have) (c .before .before .before .less .ensures ∙ ap (λ (x : ℕ). x - a .at) (c .before .before .before .before .least .ensures)) i (c .before .loop-test .taken), i .kept)
+    omega (arith, moving-to (a .have) e i (c .before .loop-test .taken), i .kept)
 
 loop-again : tie.Need-loop-again Inv-loop μ-loop
 loop-again c =
     let a = c .before .before .before .before .before .before .args in
-    moving-turn (a .have) (c .before .before .before .less .ensures ∙ ap (λ (x : ℕ). x - a .at) (c .before .before .before .before .least .ensures)) (c .before .before .loop .inv) (c .before .loop-test .taken)
+    let e = c .before .before .before .less .ensures ∙ ap (λ (x : ℕ). x - a .at) (c .before .before .before .before .least .ensures) in
+    moving-turn (a .have) e (c .before .before .loop .inv) (c .before .loop-test .taken)
 
 returns : tie.Need-returns Inv-loop μ-loop
 returns c =
     let a = c .before .before .before .before .before .args in
-    moving-end (a .have) (c .before .before .less .ensures ∙ ap (λ (x : ℕ). x - a .at) (c .before .before .before .least .ensures)) (c .before .loop .inv) (c .loop-test .left)
+    let e = c .before .before .less .ensures ∙ ap (λ (x : ℕ). x - a .at) (c .before .before .before .least .ensures) in
+    moving-end (a .have) e (c .before .loop .inv) (c .loop-test .left)
 
 pub move-up-spec : {M : Type 1} → statement M
 move-up-spec =

@@ -11,10 +11,14 @@ use Rattle.trace_window.proofs.next.Statement.{statement}
 use Rattle.trace_window.proofs.next.Tie as tie
 
 returns : tie.Need-returns
-returns c = let a = c .before .before .before .before .args in next-cut (editionOf (a .edition)) (a .c) (a .bytes .now) (c .before .if1 .taken) (c .if2 .taken)
+returns c =
+    let a = c .before .before .before .before .args in
+    next-cut (editionOf (a .edition)) (a .c) (a .bytes .now) (c .before .if1 .taken) (c .if2 .taken)
 
 returns-2 : tie.Need-returns-2
-returns-2 c = let a = c .before .before .before .before .args in next-more (editionOf (a .edition)) (a .c) (a .bytes .now) (c .before .if1 .taken) (c .if2 .left)
+returns-2 c =
+    let a = c .before .before .before .before .args in
+    next-more (editionOf (a .edition)) (a .c) (a .bytes .now) (c .before .if1 .taken) (c .if2 .left)
 
 returns-3 : tie.Need-returns-3
 returns-3 c =

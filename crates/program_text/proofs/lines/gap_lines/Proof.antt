@@ -4,7 +4,7 @@ use Prim.Native.Nat.{_-_}
 use lib.ListN.{length}
 use native.Mathlib.Omega.{arith}
 use borrow.Author.Needs.{needs}
-use Rattle.program_text.proofs.PutLaws.{put-not, passed, failed, gaps-room, Listing, listing-start, listing-turn, listing-end}
+use Rattle.program_text.proofs.PutLaws.{put-not, passed, failed, gaps-listed, Listing, listing-start, listing-turn, listing-end}
 use Rattle.program_text.proofs.lines.gap_lines.Statement.{statement}
 use Rattle.program_text.proofs.lines.gap_lines.Tie as tie
 
@@ -19,51 +19,58 @@ returns c = put-not (failed (c .before .gaps-fit .ensures) (c .if1 .taken))
 
 mul-two-numbers : tie.Need-mul-two-numbers Inv-loop μ-loop
 mul-two-numbers c =
-    let a = c .before .before .before .before .before .before .before .args in
-    let g = gaps-room (length (a .text .now)) (length (a .list .now)) (a .gaps) (passed (c .before .before .before .before .gaps-fit .ensures) (c .before .before .before .if1 .left)) in
+    let k = c .before .before .before in
+    let a = k .before .before .before .before .args in
+    let g = gaps-listed (a .text .now) (a .list .now) (a .gaps) (k .before .gaps-fit .ensures) (k .if1 .left) in
     omega (arith, g .1, c .before .loop-test .taken)
 
 mul-two-numbers-2 : tie.Need-mul-two-numbers-2 Inv-loop μ-loop
 mul-two-numbers-2 c =
-    let a = c .before .before .before .before .before .before .before .args in
-    let g = gaps-room (length (a .text .now)) (length (a .list .now)) (a .gaps) (passed (c .before .before .before .before .gaps-fit .ensures) (c .before .before .before .if1 .left)) in
+    let k = c .before .before .before in
+    let a = k .before .before .before .before .args in
+    let g = gaps-listed (a .text .now) (a .list .now) (a .gaps) (k .before .gaps-fit .ensures) (k .if1 .left) in
     omega (arith, g .1, c .before .loop-test .taken)
 
 shared-slice-read-two-numbers : tie.Need-shared-slice-read-two-numbers Inv-loop μ-loop
 shared-slice-read-two-numbers c =
-    let a = c .before .before .before .before .before .before .before .before .args in
-    let g = gaps-room (length (a .text .now)) (length (a .list .now)) (a .gaps) (passed (c .before .before .before .before .before .gaps-fit .ensures) (c .before .before .before .before .if1 .left)) in
+    let k = c .before .before .before .before in
+    let a = k .before .before .before .before .args in
+    let g = gaps-listed (a .text .now) (a .list .now) (a .gaps) (k .before .gaps-fit .ensures) (k .if1 .left) in
     omega (arith, g .1, c .before .before .loop-test .taken)
 
 mul-two-numbers-3 : tie.Need-mul-two-numbers-3 Inv-loop μ-loop
 mul-two-numbers-3 c =
-    let a = c .before .before .before .before .before .before .before .before .args in
-    let g = gaps-room (length (a .text .now)) (length (a .list .now)) (a .gaps) (passed (c .before .before .before .before .before .gaps-fit .ensures) (c .before .before .before .before .if1 .left)) in
+    let k = c .before .before .before .before in
+    let a = k .before .before .before .before .args in
+    let g = gaps-listed (a .text .now) (a .list .now) (a .gaps) (k .before .gaps-fit .ensures) (k .if1 .left) in
     omega (arith, g .1, c .before .before .loop-test .taken)
 
 add-two-numbers : tie.Need-add-two-numbers Inv-loop μ-loop
 add-two-numbers c =
-    let a = c .before .before .before .before .before .before .before .before .args in
-    let g = gaps-room (length (a .text .now)) (length (a .list .now)) (a .gaps) (passed (c .before .before .before .before .before .gaps-fit .ensures) (c .before .before .before .before .if1 .left)) in
+    let k = c .before .before .before .before in
+    let a = k .before .before .before .before .args in
+    let g = gaps-listed (a .text .now) (a .list .now) (a .gaps) (k .before .gaps-fit .ensures) (k .if1 .left) in
     omega (arith, g .1, c .before .before .loop-test .taken)
 
 mul-two-numbers-4 : tie.Need-mul-two-numbers-4 Inv-loop μ-loop
 mul-two-numbers-4 c =
-    let a = c .before .before .before .before .before .before .before .before .args in
-    let g = gaps-room (length (a .text .now)) (length (a .list .now)) (a .gaps) (passed (c .before .before .before .before .before .gaps-fit .ensures) (c .before .before .before .before .if1 .left)) in
+    let k = c .before .before .before .before in
+    let a = k .before .before .before .before .args in
+    let g = gaps-listed (a .text .now) (a .list .now) (a .gaps) (k .before .gaps-fit .ensures) (k .if1 .left) in
     omega (arith, g .1, c .before .before .loop-test .taken)
 
 shared-slice-read-two-numbers-2 : tie.Need-shared-slice-read-two-numbers-2 Inv-loop μ-loop
 shared-slice-read-two-numbers-2 c =
-    let a = c .before .before .before .before .before .before .before .before .before .args in
-    let g = gaps-room (length (a .text .now)) (length (a .list .now)) (a .gaps) (passed (c .before .before .before .before .before .before .gaps-fit .ensures) (c .before .before .before .before .before .if1 .left)) in
+    let k = c .before .before .before .before .before in
+    let a = k .before .before .before .before .args in
+    let g = gaps-listed (a .text .now) (a .list .now) (a .gaps) (k .before .gaps-fit .ensures) (k .if1 .left) in
     omega (arith, g .1, c .before .before .before .loop-test .taken)
 
 loop-again : tie.Need-loop-again Inv-loop μ-loop
 loop-again c =
     let k = c .before .before .before .before .before .before in
     let a = k .before .before .before .before .before .before .args in
-    let g = gaps-room (length (a .text .now)) (length (a .list .now)) (a .gaps) (passed (k .before .before .before .gaps-fit .ensures) (k .before .before .if1 .left)) in
+    let g = gaps-listed (a .text .now) (a .list .now) (a .gaps) (k .before .before .before .gaps-fit .ensures) (k .before .before .if1 .left) in
     listing-turn (k .before .loop .inv) (k .loop-test .taken) (g .0) (c .before .before .two-numbers .ensures)
 
 returns-2 : tie.Need-returns-2 Inv-loop μ-loop

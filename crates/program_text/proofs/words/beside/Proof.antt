@@ -16,7 +16,9 @@ returns : tie.Need-returns
 returns c = (name-small (c .before .folder-len .ensures) (c .if1 .taken), whole-counts (c .before .before .before .before .args .room .now))
 
 returns-2 : tie.Need-returns-2
-returns-2 c = (name-not (c .before .before .folder-len .ensures) (c .before .if1 .left) (c .if2 .taken), whole-counts (c .before .before .before .before .before .args .room .now))
+returns-2 c =
+    let room = c .before .before .before .before .before .args .room .now in
+    (name-not (c .before .before .folder-len .ensures) (c .before .if1 .left) (c .if2 .taken), whole-counts room)
 
 slice-aggregate-put : tie.Need-slice-aggregate-put
 slice-aggregate-put c =
@@ -51,7 +53,9 @@ returns-3 c =
     let l = folder-le path in
     let m = length-take-le n path (omega (arith, e, l)) in
     let s = length-append (take n path) template in
-    let both = put-then (omega (arith, m, k .if2 .left, k .before .if1 .left)) (c .before .before .before .before .before .before .before .put .ensures) (c .before .before .put2 .ensures) in
+    let one = c .before .before .before .before .before .before .before .put .ensures in
+    let two = c .before .before .put2 .ensures in
+    let both = put-then (omega (arith, m, k .if2 .left, k .before .if1 .left)) one two in
     (name-put e (k .before .if1 .left) (k .if2 .left) both, put-counts (omega (arith, s, m, k .if2 .left, k .before .if1 .left)) both)
 
 pub beside-spec : {M : Type 1} → statement M

@@ -19,10 +19,21 @@ returns c =
     let said = c .before .before .is-turn .ensures ∙ ap isTurn (c .before .before .before .next .ensures) in
     sym (ap (λ (t : Bool). c .before .before .before .before .before .before .with-room .result .over || t) said) ∙ c .if1 .taken
 
+sub-turns : tie.Need-sub-turns Inv-loop μ-loop
+sub-turns c =
+    let k = c .before .before .before .before .before .before .before .before in
+    omega (arith, k .before .before .before .before .before .before .before .loop-test .taken)
+
+loop-less : tie.Need-loop-less Inv-loop μ-loop
+loop-less c =
+    let k = c .before .before .before .before .before .before .before .before in
+    omega (arith, k .before .before .before .before .before .before .before .loop-test .taken)
+
 loop-again : tie.Need-loop-again Inv-loop μ-loop
 loop-again c =
-    let i = c .before .before .before .before .before .before .before .before .before .before .before .before .before .before .before .before .loop .inv in
-    let k = c .before .before .before .before .one-step .kept in
+    let j = c .before .before .before .before in
+    let k = j .one-step .kept in
+    let i = j .before .before .before .before .before .before .before .before .before .before .before .before .loop .inv in
     (k .1 .1 .1 .1 .0 ∙ i .0, k .1 .1 .1 .1 .1 .0 ∙ i .1)
 
 pub ready-spec : {M : Type 1} → statement M
@@ -39,8 +50,8 @@ ready-spec =
     (λ c. c .before .before .before .before .before .before .before .before .before .loop .inv .1)
     returns
     (λ c κs. tt)
-    (λ c. omega (arith, c .before .before .before .before .before .before .before .before .before .before .before .before .before .before .before .loop-test .taken))
-    (λ c. omega (arith, c .before .before .before .before .before .before .before .before .before .before .before .before .before .before .before .loop-test .taken))
+    sub-turns
+    loop-less
     loop-again
     (λ c. c .before .before .loop .inv .0)
     (λ c. c .before .before .loop .inv .1)

@@ -23,7 +23,9 @@ returns c =
     let r = c .before .before .replay-at in
     let f = r .last .1 .1 .0 in
     let k = r .kept .1 .1 .0 in
-    lent (editionOf (a .edition)) (stateOf (a .lab)) (a .have) (a .at) m w f (f ++ drop m w) (r .result) (c .before .before .before .before .least .ensures) k (r .ensures) refl
+    let e = editionOf (a .edition) in
+    let s = stateOf (a .lab) in
+    lent e s (a .have) (a .at) m w f (f ++ drop m w) (r .result) (c .before .before .before .before .least .ensures) k (r .ensures) refl
     (length-front w f m k)
 
 pub in-window-spec : {M : Type 1} → statement M

@@ -14,22 +14,30 @@ use Rattle.replay.proofs.turns.put_line.Tie as tie
 returns : tie.Need-returns
 returns c =
     let a = c .before .before .before .before .before .before .before .before .args in
-    put-if-as (sym (ap (λ (l : Line). lineBytes (outcomeOf l) (a .c .index) (a .c .place)) (c .before .before .before .before .before .line .given .1))) (c .before .before .two-numbers .ensures)
+    let is = c .before .before .before .before .before .line .given .1 in
+    let put = c .before .before .two-numbers .ensures in
+    put-if-as (sym (ap (λ (l : Line). lineBytes (outcomeOf l) (a .c .index) (a .c .place)) is)) put
 
 returns-2 : tie.Need-returns-2
 returns-2 c =
     let a = c .before .before .before .before .before .before .before .args in
-    put-if-as (sym (ap (λ (l : Line). lineBytes (outcomeOf l) (a .c .index) (a .c .place)) (c .before .before .before .before .enum-told .given .1))) (c .before .before .long-line .ensures)
+    let is = c .before .before .before .before .enum-told .given .1 in
+    let put = c .before .before .long-line .ensures in
+    put-if-as (sym (ap (λ (l : Line). lineBytes (outcomeOf l) (a .c .index) (a .c .place)) is)) put
 
 returns-3 : tie.Need-returns-3
 returns-3 c =
     let a = c .before .before .before .before .before .before .before .args in
-    put-if-as (sym (ap (λ (l : Line). lineBytes (outcomeOf l) (a .c .index) (a .c .place)) (c .before .before .before .before .enum-told2 .given .1))) (c .before .before .stop-line .ensures)
+    let is = c .before .before .before .before .enum-told2 .given .1 in
+    let put = c .before .before .stop-line .ensures in
+    put-if-as (sym (ap (λ (l : Line). lineBytes (outcomeOf l) (a .c .index) (a .c .place)) is)) put
 
 returns-4 : tie.Need-returns-4
 returns-4 c =
     let a = c .before .before .before .args in
-    put-if-as (sym (ap (λ (l : Line). lineBytes (outcomeOf l) (a .c .index) (a .c .place)) (c .enum-told3 .given .1))) (put-nothing (roomy (a .text .now) (a .used)) (a .text .now) (a .used))
+    let is = c .enum-told3 .given .1 in
+    let put = put-nothing (roomy (a .text .now) (a .used)) (a .text .now) (a .used) in
+    put-if-as (sym (ap (λ (l : Line). lineBytes (outcomeOf l) (a .c .index) (a .c .place)) is)) put
 
 pub put-line-spec : {M : Type 1} → statement M
 put-line-spec =

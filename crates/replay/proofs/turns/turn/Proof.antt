@@ -17,9 +17,10 @@ returns c =
     let a = c .before .before .before .before .before .before .before .before .before .before .before .before .before .before .args in
     let said = c .before .before .before .before .before .before .before .before .before .in-window .ensures in
     let at = a .p .cursor in
+    let put = c .before .before .before .before .before .put-line .ensures in
     record {
       lab = said .turns .lab;
-      line = put-if-as (ap (λ (o : Outcome). lineBytes o (at .index) (at .place)) (said .turns .line)) (c .before .before .before .before .before .put-line .ensures);
+      line = put-if-as (ap (λ (o : Outcome). lineBytes o (at .index) (at .place)) (said .turns .line)) put;
       cursor = c .before .turned .ensures ∙ ap {B = Cursor} (λ (q : ℕ). behind (q - at .at) q at) (said .turns .place);
       over = ap not (c .goes-on .ensures ∙ ap goesOn (said .turns .line));
       rest = said .rest;
