@@ -6,7 +6,20 @@ use Rattle.key_refusals.proofs.material_number.Statement.{statement}
 use Rattle.key_refusals.proofs.material_number.Tie as tie
 
 returns : tie.Need-returns
-returns c = c .refuse2 .ensures ∙ rw (c .before .known-dialect .ensures, c .before .before .refuse .ensures, c .before .before .before .longest-material .ensures, c .before .before .before .before .is-wide .ensures)
+returns c =
+    let known = c .before in
+    let line19 = known .before in
+    let limit = line19 .before in
+    let size = limit .before in
+    c .refuse2 .ensures ∙ rw (known .known-dialect .ensures, line19 .refuse .ensures, limit .longest-material .ensures, size .is-wide .ensures)
 
 pub material-number-spec : {M : Type 1} → statement M
-material-number-spec = tie.close (tie.spec (λ c κs. search needs) (λ c κs. search needs) (λ c κs. search needs) (λ c κs. search needs) (λ c κs. search needs) returns)
+material-number-spec =
+    tie.close
+    (tie.spec
+    (λ c κs. search needs)
+    (λ c κs. search needs)
+    (λ c κs. search needs)
+    (λ c κs. search needs)
+    (λ c κs. search needs)
+    returns)

@@ -14,8 +14,9 @@ returns c =
     let choice = second .before in
     let first = choice .before in
     let sigma = first .before in
-    c .wrapping-add-u324 .ensures
-    ∙ rw (third .wrapping-add-u323 .ensures, second .wrapping-add-u322 .ensures, choice .ch .ensures, first .wrapping-add-u32 .ensures, sigma .big-sigma1 .ensures)
+    let sum3 = third .wrapping-add-u323 .ensures in
+    let sum2 = second .wrapping-add-u322 .ensures in
+    c .wrapping-add-u324 .ensures ∙ rw (sum3, sum2, choice .ch .ensures, first .wrapping-add-u32 .ensures, sigma .big-sigma1 .ensures)
 
 pub t1-spec : {M : Type 1} → statement M
 t1-spec =

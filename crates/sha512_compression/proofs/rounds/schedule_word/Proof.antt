@@ -13,7 +13,8 @@ returns c =
     let sigma0 = second .before in
     let first = sigma0 .before in
     let sigma1 = first .before in
-    c .wrapping-add-u643 .ensures ∙ rw (second .wrapping-add-u642 .ensures, sigma0 .small-sigma0 .ensures, first .wrapping-add-u64 .ensures, sigma1 .small-sigma1 .ensures)
+    let sum = second .wrapping-add-u642 .ensures in
+    c .wrapping-add-u643 .ensures ∙ rw (sum, sigma0 .small-sigma0 .ensures, first .wrapping-add-u64 .ensures, sigma1 .small-sigma1 .ensures)
 
 pub schedule-word-spec : {M : Type 1} → statement M
 schedule-word-spec =
