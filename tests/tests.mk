@@ -46,13 +46,14 @@ $(MUTANTS): $(BUILD)/mutants/%: $(BUILD)/plain/%.o $(SHARED:%=$(BUILD)/plain/%.o
 outside: setup-test
 	@$(MAKE) --silent --no-print-directory NO_SETUP=1 outside-tests
 
-# What rt has to build comes first, since two runs of rt in one tree write the same files. Then two lanes, which share no file that they
-# write: the C tests, and what is not one.
-outside-tests: consistency all $(PRIMITIVES) $(BUILD)/smb3_vectors.h
-	@scripts/two-lanes "$(AGAIN) library-lane" "$(AGAIN) program-lane"
+# Two lanes side by side, which share no file that they write: the C tests, and what is not one. Two runs of rt in one tree write the same
+# files: the programs are built before the lanes, and the archives in one lane at a time.
+BUILT = flock target/archives.lock $(AGAIN) all $(PRIMITIVES)
+outside-tests: consistency dist/smb3seal-replay dist/smb3seal-rescue $(BUILD)/smb3_vectors.h
+	@scripts/two-lanes "$(BUILT) && $(AGAIN) library-lane" "$(AGAIN) replay rescue && $(BUILT) && $(AGAIN) program-lane"
 
 library-lane: symbols programs valgrind mutants tshark
-program-lane: examples packaging rust replay rescue unix faults
+program-lane: examples packaging rust unix faults
 
 # Pages, lists and vectors agree with each other and with the tree.
 consistency:
