@@ -46,14 +46,17 @@ $(MUTANTS): $(BUILD)/mutants/%: $(BUILD)/plain/%.o $(SHARED:%=$(BUILD)/plain/%.o
 outside: setup-test
 	@$(MAKE) --silent --no-print-directory NO_SETUP=1 outside-tests
 
-# Two lanes side by side, which share no file that they write: the C tests, and what is not one. Two runs of rt in one tree write the same
-# files: the programs are built before the lanes, and the archives in one lane at a time.
-BUILT = flock target/archives.lock $(AGAIN) all $(PRIMITIVES)
+# Two lanes side by side, which share no file that they write: what both need is built by one of them at a time, since two runs of rt, or of
+# the compiler, in one tree write the same files.
+BUILT = flock target/built.lock $(AGAIN) all $(PRIMITIVES) built-programs
 outside-tests: consistency dist/smb3seal-replay dist/smb3seal-rescue $(BUILD)/smb3_vectors.h
 	@scripts/two-lanes "$(BUILT) && $(AGAIN) library-lane" "$(AGAIN) replay rescue && $(BUILT) && $(AGAIN) program-lane"
 
-library-lane: symbols programs valgrind mutants tshark
-program-lane: examples packaging rust unix faults
+library-lane: symbols programs mutants tshark
+program-lane: valgrind examples packaging rust unix faults
+
+built-programs:
+	@scripts/test-with "the programs of the C tests" libssl-dev -- $(AGAIN) $(PROGRAMS) $(MUTANTS)
 
 # Pages, lists and vectors agree with each other and with the tree.
 consistency:
@@ -152,6 +155,6 @@ coverage: setup-test
 	scripts/archive-coverage $(ARCHIVE) $(BUILD)/coverage $(BUILD)/plain/vectors_test $(BUILD)/plain/lengths_test \
 	    "$(BUILD)/plain/random_test 1 $(VALGRIND_CASES)" "$(BUILD)/plain/table_test 1 $(VALGRIND_LISTS)"
 
-.PHONY: outside outside-tests library-lane program-lane consistency symbols programs replay rescue unix faults valgrind mutants tshark
+.PHONY: outside outside-tests library-lane program-lane built-programs consistency symbols programs replay rescue unix faults valgrind mutants tshark
 .PHONY: run-programs run-valgrind run-mutants run-tshark
 .PHONY: fuzz samba coverage
