@@ -9,7 +9,7 @@ use lib.Seq.{paste}
 use lib.Bits.{bit_xor}
 use borrow.Author.Rules.{rules}
 use Rattle.octets.specs.Xor.{xor_with, xor}
-use Rattle.octets.proofs.XorWith.{length-xorWith, getD-xorWith}
+use Rattle.octets.proofs.XorWith.{length-xor_with, get_d_xor_with}
 use Rattle.octets.proofs.Paste.{paste_next, paste_turn, paste_all}
 use Rattle.runs.proofs.xor_16.Statement.{statement}
 use Rattle.runs.proofs.xor_16.Tie as tie
@@ -30,11 +30,11 @@ loop-again c =
     let f : ℕ → ℕ = λ j. get_or k.before.args.t2 j 0 in
     let i = k.loop.i in
     let s : List ℕ = xor_with f 0 d in
-    let ls : length s ≡ length d = length-xorWith f 0 d in
+    let ls : length s ≡ length d = length-xor_with f 0 d in
     let z : i ≡ 0 + i = omega arith in (
       paste_turn d 0 s k.loop.r i i _ k.loop.invariant.0 z (omega arith) (omega arith)
           (ap₂ (λ (x y : ℕ). bit_xor x (f y)) (paste_next d 0 s k.loop.r i i k.loop.invariant.0 z (omega arith) (omega arith)) z
-          ∙ sym (getD-xorWith f 0 d i (omega arith))),
+          ∙ sym (get_d_xor_with f 0 d i (omega arith))),
       omega arith,
       simp length-set (omega arith),
       k.loop.invariant.3,
@@ -45,7 +45,7 @@ returns c =
     let k = c.before in
     let d = k.before.args.a in
     let f : ℕ → ℕ = λ j. get_or k.before.args.t2 j 0 in
-    let ls : length (xor_with f 0 d) ≡ length d = length-xorWith f 0 d in
+    let ls : length (xor_with f 0 d) ≡ length d = length-xor_with f 0 d in
     let hi : k.loop.i ≡ length (xor_with f 0 d) = omega arith in
     k.loop.invariant.0 ∙ ap (paste d 0 (xor_with f 0 d)) hi ∙ paste_all d 0 (xor_with f 0 d) (omega arith)
 

@@ -7,7 +7,7 @@ use native.Mathlib.Omega.{arith}
 use lib.ListN.{length, get_or, drop, length-set, length-drop}
 use lib.Seq.{paste, paste-zero, get_or-drop}
 use Rattle.octets.specs.Xor.{xor_with}
-use Rattle.octets.proofs.XorWith.{length-xorWith, getD-xorWith}
+use Rattle.octets.proofs.XorWith.{length-xor_with, get_d_xor_with}
 use Rattle.octets.proofs.Paste.{paste_next, paste_turn}
 use lib.Bits.{bit_xor}
 use Rattle.runs.proofs.xor_at.Statement.{statement}
@@ -35,13 +35,13 @@ loop-again c =
     let s : List ℕ = xor_with f 0 xs in
     let j = k.loop.j in
     let lx : length xs ≡ length d - a.at = length-drop a.at d in
-    let ls : length s ≡ length xs = length-xorWith f 0 xs in
+    let ls : length s ≡ length xs = length-xor_with f 0 xs in
     let z : j ≡ 0 + j = omega arith in (
       paste_turn d a.at s k.loop.buf j (a.at + j) _ k.loop.invariant.0 refl (omega arith) (omega arith)
           (ap₂ (λ (x y : ℕ). bit_xor x (f y))
           (paste_next d a.at s k.loop.buf j (a.at + j) k.loop.invariant.0 refl (omega arith) (omega arith) ∙ sym (get_or-drop a.at d j 0))
           z
-          ∙ sym (getD-xorWith f 0 xs j (omega arith))),
+          ∙ sym (get_d_xor_with f 0 xs j (omega arith))),
       omega arith,
       simp length-set (omega arith),
     )
