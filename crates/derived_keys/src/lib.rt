@@ -1,4 +1,6 @@
 // The table of RULES 7: a label and a context for each key. Both carry their own final zero byte.
+#![tactic(auto)]
+
 ghost use Rattle.std.specs.Prelude.{◌≡◌};
 ghost use Rattle.octets.specs.Blocks.{zero_padded};
 ghost use Rattle.protocol.specs.Connection.{cipher_key_bytes};

@@ -12,7 +12,7 @@ use Rattle.octets.specs.Blocks.{zero_padded}
 use Rattle.octets.specs.Xor.{xor}
 use Rattle.octets.proofs.BlockLaws.{zeros_replaced}
 use Rattle.octets.proofs.Paste.{paste_turn, paste_all}
-use Rattle.octets.proofs.XorWith.{length-xor, get_d_xor_with}
+use Rattle.octets.proofs.XorWith.{length-xor, get_or-xor_with}
 
 -- zeros, of which the first were replaced by s
 pub padded_is : (n : ℕ) (s : List ℕ) → length s ≤ n → paste (replicate n 0) 0 s (length s) ≡ zero_padded n s
@@ -33,7 +33,7 @@ module _ (k : List ℕ) (n x : ℕ) (e : length k ≡ n) where
       let size = ls in
       paste_turn k 0 s l i i _ el z (omega arith) (omega arith)
       (sym
-      (get_d_xor_with (λ j. get_or (replicate n x) j 0) 0 k i (omega arith)
+      (get_or-xor_with (λ j. get_or (replicate n x) j 0) 0 k i (omega arith)
       ∙ ap (bit_xor (get_or k i 0)) (ap (λ (j : ℕ). get_or (replicate n x) j 0) (sym z) ∙ get_or-replicate n i x 0 h)))
 
   -- after the last turn

@@ -1,4 +1,6 @@
 // What a record of each kind does in the lab (RULES 16).
+#![tactic(auto)]
+
 ghost use Rattle.std.specs.Prelude.{◌≡◌, ◌≤◌, length};
 ghost use Rattle.protocol.specs.Answer.{answer_number};
 ghost use Rattle.protocol.specs.Preauth.{negotiate_message};

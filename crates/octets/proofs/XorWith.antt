@@ -17,13 +17,13 @@ module _ (f : ℕ → ℕ) where
   length-xor_with i [] = refl
   length-xor_with i (x ∷ xs) = ap suc (length-xor_with (suc i) xs)
 
-  pub get_d_xor_with : (i : ℕ) (xs : List ℕ) (j : ℕ) → j < length xs → get_or (xor_with f i xs) j 0 ≡ bit_xor (get_or xs j 0) (f (i + j))
+  pub get_or-xor_with : (i : ℕ) (xs : List ℕ) (j : ℕ) → j < length xs → get_or (xor_with f i xs) j 0 ≡ bit_xor (get_or xs j 0) (f (i + j))
   unfolding xor_with
-  get_d_xor_with i [] j h = absurd (not-suc-le-zero h)
-  get_d_xor_with i (x ∷ xs) zero h = ap (λ (k : ℕ). bit_xor x (f k)) (sym (add-zero i))
-  get_d_xor_with i (x ∷ xs) (suc j) h =
+  get_or-xor_with i [] j h = absurd (not-suc-le-zero h)
+  get_or-xor_with i (x ∷ xs) zero h = ap (λ (k : ℕ). bit_xor x (f k)) (sym (add-zero i))
+  get_or-xor_with i (x ∷ xs) (suc j) h =
       let e : suc i + j ≡ i + suc j = omega arith in
-      get_d_xor_with (suc i) xs j (le_of_suc-le-suc h) ∙ ap (λ (k : ℕ). bit_xor (get_or xs j 0) (f k)) e
+      get_or-xor_with (suc i) xs j (le_of_suc-le-suc h) ∙ ap (λ (k : ℕ). bit_xor (get_or xs j 0) (f k)) e
 
   -- applied twice it gives the list back
   pub xor_with_twice : (i : ℕ) (xs : List ℕ) → xor_with f i (xor_with f i xs) ≡ xs
@@ -78,7 +78,7 @@ xor_bytes_assoc xs ys zs h =
     let agree : (j : ℕ) → j < n → f (0 + j) ≡ g (0 + j) =
     λ j l.
     let b : 0 + j < length ys = omega arith in
-    sym (get_d_xor_with (λ i. get_or zs i 0) 0 ys (0 + j) b ∙ ap (λ (i : ℕ). bit_xor (get_or ys (0 + j) 0) (get_or zs i 0)) (zero-add (0 + j))) in
+    sym (get_or-xor_with (λ i. get_or zs i 0) 0 ys (0 + j) b ∙ ap (λ (i : ℕ). bit_xor (get_or ys (0 + j) 0) (get_or zs i 0)) (zero-add (0 + j))) in
     both_xor_with (λ i. get_or ys i 0) (λ i. get_or zs i 0) 0 xs
     ∙ sym (take_all n (xor_with f 0 xs) (le_of_eq (length-xor_with f 0 xs)))
     ∙ take-xor_with f g 0 0 xs n agree

@@ -1,4 +1,6 @@
 // The preauthentication integrity hash: messages folded into a chain value (RULES 8).
+#![tactic(auto)]
+
 ghost use Rattle.std.specs.Prelude.{◌≡◌, true, ◌&&◌, ◌++◌, ◌≤◌, leb, length};
 ghost use Rattle.protocol.specs.Connection.{longest_message};
 ghost use Rattle.protocol.specs.Preauth.{FoldKind, negotiate_message, setup_request, setup_response, admits_length, admitted, more_processing, status_allows};

@@ -1,4 +1,6 @@
 // One block, and all whole blocks of a byte string, taken into the hash value (FIPS 180-4 §6.4.2).
+#![tactic(auto)]
+
 pub mod constants;
 mod functions;
 mod rounds;

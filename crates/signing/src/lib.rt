@@ -1,4 +1,6 @@
 // Signing a message in clear, and verifying it, under one given key (RULES 15; MS-SMB2 3.1.4.1 and 3.1.5.1).
+#![tactic(auto)]
+
 ghost use Rattle.std.specs.Prelude.{◌≡◌, ◌≤◌, length};
 ghost use Rattle.protocol.specs.Answer.{first_of};
 ghost use Rattle.protocol.specs.Signing.{is_signed, with_signed_flag, signature_under};

@@ -1,4 +1,6 @@
 // The calls from C: numbers and byte buffers. What each answers and leaves behind is said by include/smb3seal.h in words.
+#![tactic(auto)]
+
 mod pieces;
 mod sign_pieces;
 mod table;
