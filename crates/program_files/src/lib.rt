@@ -1,5 +1,7 @@
 // Files as the programs of lab traces use them: each function here makes a call or two of the kit's libraries. Which bytes a file gives and
 // where they go no contract can say; what becomes of what is lent, these do.
+#![tactic(auto)]
+
 ghost use Rattle.std.specs.Prelude.{◌≤◌, length};
 ghost use Rattle.program_files.specs.Reads.{ReadsBehind, Gathers};
 

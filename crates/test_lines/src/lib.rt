@@ -1,5 +1,7 @@
 // What the programs read and write: lines of words, which are byte strings in hexadecimal with one space between two. `-` is the
 // empty string. What is written has no contract: nothing is promised of a file. What is read and compared has.
+#![tactic(auto)]
+
 ghost use Rattle.std.specs.Prelude.{◌≡◌, ◌+◌, ◌*◌, ◌%◌, ◌^◌, ◌<◌, ◌≤◌, length, take, drop};
 ghost use Rattle.octets.specs.Numbers.{big_endian};
 ghost use Rattle.octets.specs.Same.{same_bytes};

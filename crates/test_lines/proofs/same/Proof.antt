@@ -1,7 +1,7 @@
 -- Right because the bytes before the place are the same, so that what follows decides.
 -- Assumes nothing.
 use Rattle.std.proofs.Common.{◌-◌, length, arith, rules}
-use Rattle.test_lines.proofs.LineLaws.{same_lengths, Alike, alike-start, alike-turn, alike-not, alike_end}
+use Rattle.test_lines.proofs.LineLaws.{same_lengths, Alike, alike_start, alike_turn, alike_not, alike_end}
 use Rattle.test_lines.proofs.same.Statement.{statement}
 use Rattle.test_lines.proofs.same.Tie as tie
 
@@ -15,13 +15,13 @@ returns : tie.Need-returns invariant-loop decreases-loop
 returns c = same_lengths c.before.args.a.now c.before.args.b.now c.if1.true
 
 loop-holds : tie.Need-loop-init invariant-loop decreases-loop
-loop-holds c = alike-start c.if1.false
+loop-holds c = alike_start c.if1.false
 
 returns-2 : tie.Need-returns-2 invariant-loop decreases-loop
-returns-2 c = let k = c.before.before.before in alike-not k.before.loop.invariant k.loop-test.true c.if2.true
+returns-2 c = let k = c.before.before.before in alike_not k.before.loop.invariant k.loop-test.true c.if2.true
 
 loop-again : tie.Need-loop-preserved invariant-loop decreases-loop
-loop-again c = let k = c.before.before.before in alike-turn k.before.loop.invariant k.loop-test.true c.if2.false
+loop-again c = let k = c.before.before.before in alike_turn k.before.loop.invariant k.loop-test.true c.if2.false
 
 returns-3 : tie.Need-returns-3 invariant-loop decreases-loop
 returns-3 c = alike_end c.before.loop.invariant c.loop-test.false

@@ -8,17 +8,17 @@ use lib.Seq.{length-take-le}
 use borrow.Author.Rules.{rules}
 use Rattle.program_text.specs.Words.{template}
 use Rattle.program_text.proofs.PutLaws.{left, put_then}
-use Rattle.program_text.proofs.WordLaws.{folder_le, name-small, name-not, name-put, whole_counts, put_counts}
+use Rattle.program_text.proofs.WordLaws.{folder_le, name_small, name_not, name_put, whole_counts, put_counts}
 use Rattle.program_text.proofs.words.beside.Statement.{statement}
 use Rattle.program_text.proofs.words.beside.Tie as tie
 
 returns : tie.Need-returns
-returns c = (name-small c.before.folder-len.ensures c.if1.true, whole_counts c.before.before.before.before.args.room.now)
+returns c = (name_small c.before.folder-len.ensures c.if1.true, whole_counts c.before.before.before.before.args.room.now)
 
 returns-2 : tie.Need-returns-2
 returns-2 c =
     let room = c.before.before.before.before.before.args.room.now in
-    (name-not c.before.before.folder-len.ensures c.before.if1.false c.if2.true, whole_counts room)
+    (name_not c.before.before.folder-len.ensures c.before.if1.false c.if2.true, whole_counts room)
 
 slice-aggregate-put : tie.Need-slice-aggregate-put
 slice-aggregate-put c =
@@ -56,7 +56,7 @@ returns-3 c =
     let one = c.before.before.before.before.before.before.before.put.ensures in
     let two = c.before.before.put2.ensures in
     let both = put_then (omega (arith, m, k.if2.false, k.before.if1.false)) one two in
-    (name-put e k.before.if1.false k.if2.false both, put_counts (omega (arith, s, m, k.if2.false, k.before.if1.false)) both)
+    (name_put e k.before.if1.false k.if2.false both, put_counts (omega (arith, s, m, k.if2.false, k.before.if1.false)) both)
 
 pub beside-spec : {M : Type 1} → statement M
 beside-spec =

@@ -6,7 +6,7 @@ use lib.ListN.{length, drop}
 use native.Mathlib.Omega.{arith}
 use borrow.Author.Rules.{rules}
 use Rattle.program_text.specs.Words.{last_slash}
-use Rattle.program_text.proofs.WordLaws.{slash-turn, slash-end}
+use Rattle.program_text.proofs.WordLaws.{slash_turn, slash_end}
 use Rattle.program_text.proofs.words.folder_len.Statement.{statement}
 use Rattle.program_text.proofs.words.folder_len.Tie as tie
 
@@ -20,12 +20,12 @@ loop-again : tie.Need-loop-preserved invariant-loop decreases-loop
 loop-again c =
     let k = c.before.before.before in
     let a = k.before.before.args in
-    slash-turn a.path.now k.loop.found k.loop.i c.before.before.loop-test.true c.later.ensures ∙ k.loop.invariant
+    slash_turn a.path.now k.loop.found k.loop.i c.before.before.loop-test.true c.later.ensures ∙ k.loop.invariant
 
 returns : tie.Need-returns invariant-loop decreases-loop
 returns c =
     let a = c.before.before.before.args in
-    sym (slash-end a.path.now c.before.loop.found c.before.loop.i c.loop-test.false) ∙ c.before.loop.invariant
+    sym (slash_end a.path.now c.before.loop.found c.before.loop.i c.loop-test.false) ∙ c.before.loop.invariant
 
 pub folder-len-spec : {M : Type 1} → statement M
 folder-len-spec =
