@@ -4,7 +4,7 @@ use borrow.Author.Rules.{rules}
 use Rattle.rijndael.specs.Field.{xtimes}
 use Rattle.rijndael.specs.KeyExpansion.{round_keys, xpower}
 use Rattle.rijndael.proofs.Lengths.{expanded_16}
-use Rattle.aes_key_expansion.proofs.ExpansionLaws.{expanded, first_4, next_4}
+use Rattle.aes_key_expansion.proofs.ExpansionLaws.{expanded, first-4, next-4}
 use Rattle.aes_key_expansion.proofs.expand_128.Tie as tie
 use Rattle.aes_key_expansion.proofs.expand_128.Statement.{statement}
 
@@ -33,16 +33,16 @@ returns c =
     let start = c1.before.before.before in
     let key = start.args.key in
     let h = start.well-formed.0.1.0.1 in
-    let m1 = next_4 0 0x01 refl refl c1.next-key.ensures (first_4 key h) in
-    let m2 = next_4 4 0x02 refl refl c2.next-key2.ensures m1 in
-    let m3 = next_4 8 0x04 refl refl c3.next-key3.ensures m2 in
-    let m4 = next_4 12 0x08 refl refl c4.next-key4.ensures m3 in
-    let m5 = next_4 16 0x10 refl refl c5.next-key5.ensures m4 in
-    let m6 = next_4 20 0x20 refl refl c6.next-key6.ensures m5 in
-    let m7 = next_4 24 0x40 refl refl c7.next-key7.ensures m6 in
-    let m8 = next_4 28 0x80 refl refl c8.next-key8.ensures m7 in
-    let m9 = next_4 32 0x1b refl refl c9.next-key9.ensures m8 in
-    let m10 = next_4 36 0x36 refl refl c.next-key10.ensures m9 in
+    let m1 = next-4 0 0x01 refl refl c1.next-key.ensures (first-4 key h) in
+    let m2 = next-4 4 0x02 refl refl c2.next-key2.ensures m1 in
+    let m3 = next-4 8 0x04 refl refl c3.next-key3.ensures m2 in
+    let m4 = next-4 12 0x08 refl refl c4.next-key4.ensures m3 in
+    let m5 = next-4 16 0x10 refl refl c5.next-key5.ensures m4 in
+    let m6 = next-4 20 0x20 refl refl c6.next-key6.ensures m5 in
+    let m7 = next-4 24 0x40 refl refl c7.next-key7.ensures m6 in
+    let m8 = next-4 28 0x80 refl refl c8.next-key8.ensures m7 in
+    let m9 = next-4 32 0x1b refl refl c9.next-key9.ensures m8 in
+    let m10 = next-4 36 0x36 refl refl c.next-key10.ensures m9 in
     expanded 4 10 key _ refl m10 ∙ sym (expanded_16 key h)
 
 pub expand-128-spec : {M : Type 1} → statement M

@@ -6,7 +6,7 @@ use lib.ListN.{length}
 use borrow.Author.Rules.{rules}
 use Rattle.rijndael.specs.Cipher.{rounds}
 use Rattle.aes_words.specs.Words.{state_of}
-use Rattle.aes_rounds.proofs.CipherLaws.{ciphered, one_round}
+use Rattle.aes_rounds.proofs.CipherLaws.{ciphered, one-round}
 use Rattle.aes_rounds.proofs.encrypt.Tie as tie
 use Rattle.aes_rounds.proofs.encrypt.Statement.{statement}
 
@@ -28,7 +28,7 @@ loop-again c =
       omega arith,
       omega arith,
       omega arith,
-      one_round l.r keys _ (omega arith) l.invariant.3 c.before.load2.ensures c.round.ensures,
+      one-round l.r keys _ (omega arith) l.invariant.3 c.before.load2.ensures c.round.ensures,
     )
 
 returns : tie.Need-returns invariant-loop decreases-loop
