@@ -1,12 +1,12 @@
 -- Right because the name is compared with as many bytes of the line, where there are more.
 -- Assumes nothing.
 use Rattle.std.proofs.Common.{sym, arith, length-take-le, rules}
-use Rattle.test_lines.proofs.LineLaws.{begins_not, begins_if}
+use Rattle.test_lines.proofs.LineLaws.{begins-not, begins_if}
 use Rattle.test_lines.proofs.is.Statement.{statement}
 use Rattle.test_lines.proofs.is.Tie as tie
 
 returns : tie.Need-returns
-returns c = let a = c.before.before.before.args in begins_not a.line.now a.name.now c.if1.true
+returns c = let a = c.before.before.before.args in begins-not a.line.now a.name.now c.if1.true
 
 slice-aggregate-same : tie.Need-slice-aggregate-same
 slice-aggregate-same c =

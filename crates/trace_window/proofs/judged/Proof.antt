@@ -1,4 +1,4 @@
--- Right because each return stands under the tests of `byHead`.
+-- Right because each return stands under the tests of `by_head`.
 -- Assumes nothing.
 use Rattle.std.proofs.Common.{length, sym, ap, ◌∙◌, arith, rules}
 use Rattle.trace_reader.specs.Answers.{head_reading_of}

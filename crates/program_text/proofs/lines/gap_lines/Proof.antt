@@ -4,7 +4,7 @@ use Prim.Native.Nat.{◌-◌}
 use lib.ListN.{length}
 use native.Mathlib.Omega.{arith}
 use borrow.Author.Rules.{rules}
-use Rattle.program_text.proofs.PutLaws.{put_not, passed, failed, gaps-listed, Listing, listing_start, listing_turn, listing_end}
+use Rattle.program_text.proofs.PutLaws.{put-not, passed, failed, gaps-listed, Listing, listing_start, listing_turn, listing_end}
 use Rattle.program_text.proofs.lines.gap_lines.Statement.{statement}
 use Rattle.program_text.proofs.lines.gap_lines.Tie as tie
 
@@ -15,7 +15,7 @@ abbrev decreases-loop : tie.decreases-loop
 decreases-loop text₀ list gaps at₀ i₀ text at i = gaps - i
 
 returns : tie.Need-returns invariant-loop decreases-loop
-returns c = put_not (failed c.before.gaps-fit.ensures c.if1.true)
+returns c = put-not (failed c.before.gaps-fit.ensures c.if1.true)
 
 mul-two-numbers : tie.Need-overflow-mul-two-numbers invariant-loop decreases-loop
 mul-two-numbers c =

@@ -4,12 +4,12 @@ use native.Mathlib.Omega.{arith}
 use borrow.Author.Rules.{rules}
 use Rattle.program_text.specs.Lines.{long_line}
 use Rattle.program_text.proofs.DecimalLaws.{length-decimal}
-use Rattle.program_text.proofs.PutLaws.{put_not, put-done, put_then, left, passed, failed, room_le}
+use Rattle.program_text.proofs.PutLaws.{put-not, put-done, put_then, left, passed, failed, room_le}
 use Rattle.program_text.proofs.lines.long_line.Statement.{statement}
 use Rattle.program_text.proofs.lines.long_line.Tie as tie
 
 returns : tie.Need-returns
-returns c = put_not (failed c.before.has_room.ensures c.if1.true)
+returns c = put-not (failed c.before.has_room.ensures c.if1.true)
 
 put-decimal-requires : tie.Need-put-decimal-requires
 put-decimal-requires c κs =

@@ -4,7 +4,7 @@ use mathlib.Core.Path.{◌∙◌}
 use Prim.Native.Nat.{◌<◌}
 use native.Mathlib.Omega.{arith}
 use borrow.Author.Rules.{rules}
-use Rattle.program_text.proofs.DecimalLaws.{twenty, decimal_is}
+use Rattle.program_text.proofs.DecimalLaws.{twenty, decimal-is}
 use Rattle.program_text.proofs.PutLaws.{put_as}
 use Rattle.program_text.proofs.lines.put_decimal.Statement.{statement}
 use Rattle.program_text.proofs.lines.put_decimal.Tie as tie
@@ -22,7 +22,7 @@ returns c =
     let first = c.before.before.before.before.before.before.before.before in
     let said = c.before.before.before.before.before.decimal.ensures in
     let small : first.args.n < 18446744073709551616 = search rules in
-    put_as (said.1.1 ∙ decimal_is first.args.n _ small said.1.0) c.before.before.put.ensures
+    put_as (said.1.1 ∙ decimal-is first.args.n _ small said.1.0) c.before.before.put.ensures
 
 pub put-decimal-spec : {M : Type 1} → statement M
 put-decimal-spec =

@@ -6,12 +6,12 @@ use lib.ListN.{length-append}
 use borrow.Author.Rules.{rules}
 use Rattle.program_text.specs.Lines.{decimal, stop_line}
 use Rattle.program_text.proofs.DecimalLaws.{length-decimal}
-use Rattle.program_text.proofs.PutLaws.{put_not, put-done, put_then, left, passed, failed, room_le}
+use Rattle.program_text.proofs.PutLaws.{put-not, put-done, put_then, left, passed, failed, room_le}
 use Rattle.program_text.proofs.lines.stop_line.Statement.{statement}
 use Rattle.program_text.proofs.lines.stop_line.Tie as tie
 
 returns : tie.Need-returns
-returns c = put_not (failed c.before.has_room.ensures c.if1.true)
+returns c = put-not (failed c.before.has_room.ensures c.if1.true)
 
 put-requires : tie.Need-put-requires
 put-requires c κs =
