@@ -65,6 +65,7 @@ consistency:
 	@scripts/numbers --check
 	@scripts/docs-check
 	@scripts/edits-check
+	@scripts/exports-check
 	@scripts/crates-picture --check
 
 symbols: $(PRIMITIVES)
