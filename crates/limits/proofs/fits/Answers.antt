@@ -7,9 +7,7 @@ use native.Mathlib.Omega.{arith}
 use borrow.Author.Tests.{le-leb, lt-leb, leb-true, leb-false}
 use lib.Dec.{leb}
 use Rattle.protocol.specs.Connection.{longest_message}
-use borrow.Author.Rules.{rules}
-use Rattle.limits.proofs.fits.Statement.{statement}
-use Rattle.limits.proofs.fits.Tie as tie
+use Rattle.limits.proofs.fits.Goals as goal
 
 room_for : (limit length more : ℕ) → limit ≡ longest_message → length ≤ limit → leb more (limit - length) ≡ leb (length + more) longest_message
 room_for limit length more e h = go (leb more (limit - length)) refl ∙ ap (leb (length + more)) e
@@ -18,13 +16,10 @@ room_for limit length more e h = go (leb more (limit - length)) refl ∙ ap (leb
     go true t = sym (le-leb (length + more) limit (omega (arith, leb-true more (limit - length) t)))
     go false t = sym (lt-leb (length + more) limit (omega (arith, leb-false more (limit - length) t)))
 
-returns : tie.Need-returns
-returns c =
-    let a = c.before.before.args in
-    sym (lt-leb (a.length + a.more) longest_message (omega (arith, c.if1.true, c.before.longest-message.ensures)))
+pub returns-then-longest-length : goal.returns-then-longest-length
+returns-then-longest-length c =
+    let a = c.args in
+    sym (lt-leb (a.length + a.more) longest_message (omega (arith, c.if-longest-length.true, c.longest_message-longest.ensures)))
 
-returns-2 : tie.Need-returns-2
-returns-2 c = room_for _ _ _ c.before.longest-message.ensures (omega (arith, c.if1.false))
-
-pub fits-spec : {M : Type 1} → statement M
-fits-spec = tie.close (tie.spec (λ c κs. search rules) returns returns-2)
+pub returns : goal.returns
+returns c = room_for _ _ _ c.longest_message-longest.ensures (omega (arith, c.if-longest-length.false))

@@ -1,13 +1,11 @@
 -- Right because a bit stands for the role and for encryption, and encryption is off where the role is neither.
 use mathlib.Core.Path.{◌≡◌, refl, ◌∙◌}
 use mathlib.Core.Bool.{Bool, true, false, cond, not, ◌&&◌}
-use Prim.Native.Nat.{ℕ}
 use lib.Dec.{eqb, leb}
 use Rattle.protocol.specs.Connection as rules
 use Rattle.connection.specs.Reading.{flag, bit_of, role_of}
 use borrow.Author.Rules.{rules}
-use Rattle.connection.proofs.under_key.Statement.{statement}
-use Rattle.connection.proofs.under_key.Tie as tie
+use Rattle.connection.proofs.under_key.Goals as goal
 
 role-is : (b : Bool) → role_of (bit_of (not b)) ≡ cond b rules.client rules.server
 role-is true = refl
@@ -18,11 +16,11 @@ agreed-is true true = refl
 agreed-is true false = refl
 agreed-is false y = refl
 
-returns : tie.Need-returns
+pub returns : goal.returns
 returns c =
-    let a = c.before.before.args in
-    let role = c.before.bit.ensures in
-    let on = c.bit2.ensures in
+    let a = c.args in
+    let role = c.bit.ensures in
+    let on = c.bit-2.ensures in
     (λ j. record {
       role = role_of (role j);
       dialect = a.dialect;
@@ -37,6 +35,3 @@ returns c =
       cipher = a.cipher;
       constrained = false;
     })
-
-pub under-key-spec : {M : Type 1} → statement M
-under-key-spec = tie.close (tie.spec (λ c κs. search rules) (λ c κs. search rules) returns)
