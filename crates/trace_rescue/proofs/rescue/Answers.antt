@@ -23,13 +23,13 @@ pub returns-then-not-fits : goal.returns-then-not-fits
 returns-then-not-fits c =
     let a = c.args in
     let head = ap file_reading_of (sym c.in-Good.is) ∙ c.read_file_head.ensures in
-    room_small a.file.now a.room.now a.list.now _ _ _ head _ c.measure-s.ensures _ c.fits2.ensures (ap not c.if-not-fits.true)
+    room_small a.file.now a.room.now a.list.now _ _ _ head _ c.measure-s.ensures _ c.fits.ensures (ap not c.if-not-fits.true)
 
 pub write_file-requires : goal.write_file-requires
 write_file-requires c =
     let a = c.args in
     let head = ap file_reading_of (sym c.in-Good.is) ∙ c.read_file_head.ensures in
-    room-there a.file.now a.room.now a.list.now _ _ _ head _ c.measure-s.ensures _ c.fits2.ensures
+    room-there a.file.now a.room.now a.list.now _ _ _ head _ c.measure-s.ensures _ c.fits.ensures
     (ap not c.if-not-fits.false)
 
 pub overflow_add-result : goal.overflow_add-result
@@ -38,7 +38,7 @@ overflow_add-result c =
     let bounds = c.well_formed in
     let head = ap file_reading_of (sym c.in-Good.is) ∙ c.read_file_head.ensures in
     let h =
-    sum_fits a.file.now a.room.now a.list.now _ _ _ head _ c.measure-s.ensures _ c.fits2.ensures
+    sum_fits a.file.now a.room.now a.list.now _ _ _ head _ c.measure-s.ensures _ c.fits.ensures
     (ap not c.if-not-fits.false) in
     omega arith
 
@@ -46,5 +46,5 @@ pub returns : goal.returns
 returns c =
     let a = c.args in
     let head = ap file_reading_of (sym c.in-Good.is) ∙ c.read_file_head.ensures in
-    rescued a.file.now a.room.now a.list.now _ _ _ head _ c.measure-s.ensures _ c.fits2.ensures
+    rescued a.file.now a.room.now a.list.now _ _ _ head _ c.measure-s.ensures _ c.fits.ensures
     (ap not c.if-not-fits.false) _ _ c.write_file.ensures

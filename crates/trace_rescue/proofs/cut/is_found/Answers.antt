@@ -13,7 +13,7 @@ returns-in_default c =
     let a = c.args in
     let e = edition_of a.edition in
     let f = a.file.now in
-    not_found e f a.at (was_not e f a.at c.read_record.result c.read_record.ensures c.in-Record.keys2)
+    not_found e f a.at (was_not e f a.at c.read_record.result c.read_record.ensures c.in_default.not-Record)
 
 pub slice_bounds-begins_message-count : goal.slice_bounds-begins_message-count
 slice_bounds-begins_message-count c =

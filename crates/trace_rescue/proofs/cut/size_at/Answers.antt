@@ -13,7 +13,7 @@ returns-in_default c =
     let a = c.args in
     let e = edition_of a.edition in
     let f = a.file.now in
-    no_size e f a.at (was_not e f a.at c.read_record.result c.read_record.ensures c.in-Record.keys2)
+    no_size e f a.at (was_not e f a.at c.read_record.result c.read_record.ensures c.in_default.not-Record)
 
 pub overflow_add-result : goal.overflow_add-result
 overflow_add-result c =
