@@ -11,7 +11,7 @@ use Rattle.cmac.proofs.AnyState.{updated-within, updated-beyond}
 use Rattle.cmac.proofs.Mac.update.Goals as goal
 
 pub copy-requires : goal.copy-requires
-copy-requires c = let r = (let it : length c.args.self.buffer ≡ 16 = sym (length-map c.args.self.buffer _) ∙ c.well_formed.0.1.1.1.0.1.0.1 in it) in omega arith
+copy-requires c = let r = (let it : length c.args.self.buffer ≡ 16 = c.well_formed.0.1.1.1.0.1.0.1 in it) in omega arith
 
 pub returns-then-piece-room : goal.returns-then-piece-room
 returns-then-piece-room c =
@@ -25,7 +25,7 @@ slice_bounds-copy-end-3 c =
 
 pub copy-requires-2 : goal.copy-requires-2
 copy-requires-2 c =
-    let r = (let it : length c.args.self.buffer ≡ 16 = sym (length-map c.args.self.buffer _) ∙ c.well_formed.0.1.1.1.0.1.0.1 in it) in
+    let r = (let it : length c.args.self.buffer ≡ 16 = c.well_formed.0.1.1.1.0.1.0.1 in it) in
     let n = c.at_most-n.result in
     let l = length-take-le (16 - n) c.args.piece.now (omega arith) in
     omega arith
@@ -39,7 +39,7 @@ returns c =
     let a = c.args in
     let x₁ = take (16 - n.result) a.piece.now in
     let l₁ = length-take-le (16 - n.result) a.piece.now (omega arith) in
-    let pasted = length-paste a.self.buffer n.result x₁ (length x₁) (omega (arith, (let it : length c.args.self.buffer ≡ 16 = sym (length-map c.args.self.buffer _) ∙ c.well_formed.0.1.1.1.0.1.0.1 in it), l₁, n.ensures)) (le_refl (length x₁)) in
-    let size = ap length c.copy-2.ensures ∙ pasted ∙ (let it : length c.args.self.buffer ≡ 16 = sym (length-map c.args.self.buffer _) ∙ c.well_formed.0.1.1.1.0.1.0.1 in it) in
+    let pasted = length-paste a.self.buffer n.result x₁ (length x₁) (omega (arith, (let it : length c.args.self.buffer ≡ 16 = c.well_formed.0.1.1.1.0.1.0.1 in it), l₁, n.ensures)) (le_refl (length x₁)) in
+    let size = ap length c.copy-2.ensures ∙ pasted ∙ (let it : length c.args.self.buffer ≡ 16 = c.well_formed.0.1.1.1.0.1.0.1 in it) in
     updated-beyond (block_cipher a.keys) a.self a.piece.now n.result n.ensures _ _ _ _ (omega arith) size
     c.copy-2.ensures c.chain-first.ensures c.chain-next.ensures c.copy-3.ensures
