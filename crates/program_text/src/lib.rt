@@ -1,4 +1,6 @@
 // What the programs of lab traces write, as bytes in a lent text: lines, and the name of a file beside another; and which argument is no file.
+#![tactic(auto)]
+
 mod lines;
 mod parts;
 mod words;
