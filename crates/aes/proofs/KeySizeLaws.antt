@@ -48,7 +48,7 @@ below_fifteen : (n : ℕ) → is_key_length n ≡ true → round_count n < 15
 unfolding round_count
 below_fifteen n h = of_sizes n h (λ e. omega arith) (λ e. omega arith)
 
--- ---- the array
+-- ____ the array
 
 pub cipher-fifteen : (keys : List (List ℕ)) → 0 < length keys → cipher (length keys - 1) (fifteen keys) ≡ block_cipher keys
 unfolding fifteen
@@ -76,7 +76,7 @@ pub eleven_in_fifteen : (k : List (List ℕ)) → length k ≡ 11 → rows 11 0 
 unfolding fifteen
 eleven_in_fifteen k h = rows_drop 11 0 k _ (sym h) ∙ ap (λ (n : ℕ). k ++ replicate (15 - n) (replicate 16 0)) (sym h)
 
--- ---- a key of each size
+-- ____ a key of each size
 
 pub short-keys : (key k : List ℕ) (ks r : List (List ℕ)) → length key ≡ 16 → k ≡ bytes_at 0 16 key → ks ≡ expanded_key k → r ≡ fifteen ks
     → r ≡ fifteen (expanded_key key)
@@ -98,7 +98,7 @@ long-keys key k0 k1 r h e0 e1 er =
     let n = length-expanded_key key in
     er ∙ ap expanded_key (ap₂ ◌++◌ e0 e1 ∙ halves key h) ∙ full (expanded_key key) (omega arith)
 
--- ---- what the modes take of the code's results
+-- ____ what the modes take of the code's results
 
 module _ (key : List ℕ) {n : ℕ} (en : n ≡ round_count (length key)) where
   pub keyed : {keys : List (List ℕ)} → keys ≡ fifteen (expanded_key key) → cipher n keys ≡ block_cipher (expanded_key key)

@@ -1,4 +1,6 @@
 // AES (FIPS 197) with keys of 128 and 256 bits: the key expansion and the cipher.
+#![tactic(auto)]
+
 ghost use Rattle.std.specs.Prelude.{true, ◌≡◌, ◌++◌, ◌<◌, length};
 ghost use Rattle.octets.specs.Numbers.{to_big_endian};
 ghost use Rattle.rijndael.specs.Cipher.{cipher};

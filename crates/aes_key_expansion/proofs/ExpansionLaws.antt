@@ -12,7 +12,7 @@ use Rattle.octets.proofs.Elements.{whole}
 use Rattle.rijndael.specs.KeyExpansion.{key_expansion, round_keys, words, key_words, temp, rcon, xpower, word_of, xor_word, sub_word, rot_word}
 use Rattle.aes_key_expansion.specs.NextKey.{next_word, next_key, at_multiple, at_middle}
 
--- ---- what a word takes in of the word before it, by its place
+-- ____ what a word takes in of the word before it, by its place
 
 -- at a multiple of nk
 temp_multiple : (nk i c : ℕ) (w : List ℕ) → i % nk ≡ 0 → xpower (i / nk - 1) ≡ c → temp nk i w ≡ xor_word (sub_word (rot_word w)) (c ∷ 0 ∷ 0 ∷ 0 ∷ [])
@@ -38,7 +38,7 @@ plain_4 i w h = temp_plain 4 i w (ne_eqb (i % 4) 0 (λ e. omega arith)) (ne_eqb 
 plain_8 : (i : ℕ) (w : List ℕ) → 0 < i % 4 → temp 8 i w ≡ w
 plain_8 i w h = temp_plain 8 i w (ne_eqb (i % 8) 0 (λ e. omega arith)) (ne_eqb (i % 8) 4 (λ e. omega arith))
 
--- ---- four words more
+-- ____ four words more
 
 -- the words of a round key, the last first, before ws
 abbrev words_of : List ℕ → List (List ℕ) → List (List ℕ)
@@ -66,7 +66,7 @@ module _ (nk : ℕ) (plain : (i : ℕ) (w : List ℕ) → 0 < i % 4 → temp nk 
       (plain (nk + suc (suc n)) _ (omega arith)) (g2 _ _))
       (plain (nk + suc (suc (suc n))) _ (omega arith)) (g3 _ _ _)
 
--- ---- the round keys so far, the last first
+-- ____ the round keys so far, the last first
 
 abbrev all_words : List (List ℕ) → List (List ℕ)
 all_words [] = []
@@ -107,7 +107,7 @@ unfolding key_expansion
 expanded nk nr key ks rows m =
     sym (ap (λ (w : List (List ℕ)). round_keys (nr + 1) 0 (reverse w)) m.are ∙ rows ∙ ap reverse m.each)
 
--- ---- a key of four words
+-- ____ a key of four words
 
 pub first_4 : (key : List ℕ) → length key ≡ 16 → Made 4 0 key (key ∷ [])
 unfolding words key_words
@@ -122,16 +122,16 @@ next_4 n c {key} {k} {r} {ks} h x e m =
     let t = temp_multiple 4 (4 + n) c _ z (ap xpower i ∙ x) in
     made k _ (step 4 plain_4 n key k _ _ z m.are t refl (λ a. refl) (λ a b. refl) (λ a b d. refl)) m.each e
 
--- ---- a key of eight words
+-- ____ a key of eight words
 
-words-of_halves : (k l : List ℕ) → words 8 0 (joined k ++ l) ≡ all_words (l ∷ k ∷ [])
+words_of_halves : (k l : List ℕ) → words 8 0 (joined k ++ l) ≡ all_words (l ∷ k ∷ [])
 unfolding words key_words word_of
-words-of_halves k l = refl
+words_of_halves k l = refl
 
 pub first_8 : (k l : List ℕ) → length k ≡ 16 → length l ≡ 16 → Made 8 0 (k ++ l) (l ∷ k ∷ [])
 first_8 k l hk hl =
     record {
-      are = ap (λ (x : List ℕ). words 8 0 (x ++ l)) (sym (joined-whole k hk)) ∙ words-of_halves k l;
+      are = ap (λ (x : List ℕ). words 8 0 (x ++ l)) (sym (joined-whole k hk)) ∙ words_of_halves k l;
       each = cons (joined-whole l hl) (cons (joined-whole k hk) refl);
     }
 

@@ -1,4 +1,6 @@
 // The key expansion (FIPS 197, 5.2) of keys of four and of eight words.
+#![tactic(auto)]
+
 ghost use Rattle.std.specs.Prelude.{◌≡◌, [], ◌++◌};
 ghost use Rattle.rijndael.specs.Field.{sbox};
 ghost use Rattle.rijndael.specs.BlockCipher.{expanded_key};

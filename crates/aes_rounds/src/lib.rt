@@ -1,4 +1,6 @@
 // The rounds of the cipher (FIPS 197, 5.1), on columns. SHIFTROWS is in the choice of the columns that a byte is taken from.
+#![tactic(auto)]
+
 ghost use Rattle.std.specs.Prelude.{◌≡◌, ◌<◌, length};
 ghost use Rattle.rijndael.specs.Field.{sbox, mul};
 ghost use Rattle.rijndael.specs.Cipher.{cipher, add_round_key, mix_columns, shift_rows, sub_bytes};

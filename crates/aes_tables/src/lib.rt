@@ -1,4 +1,6 @@
 // The tables of AES. Each is tested against its rule once, where a function gives it out.
+#![tactic(auto)]
+
 ghost use Rattle.aes_tables.specs.Tables.{SubBytesTable, SubMixTable};
 
 mod constants;

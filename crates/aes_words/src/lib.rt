@@ -1,4 +1,6 @@
 // Words of four bytes (FIPS 197, 3.5), the first in the low digits; and a state as its four columns (3.4).
+#![tactic(auto)]
+
 ghost use Rattle.std.specs.Prelude.{◌≡◌, ◌++◌, ◌+◌, ◌≤◌, length};
 ghost use Rattle.octets.specs.Numbers.{to_big_endian};
 ghost use Rattle.aes_words.specs.Words.{Bytes, WordAt, state_of, byte0, byte1, byte2, byte3};

@@ -1,4 +1,6 @@
 // What the calls answer with (RULES 2).
+#![tactic(auto)]
+
 ghost use Rattle.std.specs.Prelude.{◌≡◌, cond};
 ghost use Rattle.protocol.specs.Answer.{answer_number, is_refused, carried};
 ghost use Rattle.answer.specs.Reading.{answer_of, marked};

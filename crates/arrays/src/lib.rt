@@ -1,4 +1,6 @@
 // Arrays out of byte strings.
+#![tactic(auto)]
+
 ghost use Rattle.std.specs.Prelude.{◌≡◌, ◌+◌, ◌≤◌, length};
 ghost use Rattle.octets.specs.Numbers.{bytes_at};
 

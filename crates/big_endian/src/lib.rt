@@ -1,4 +1,6 @@
 // Numbers in bytes, the highest byte first.
+#![tactic(auto)]
+
 ghost use Rattle.std.specs.Prelude.{◌≡◌, ◌+◌, ◌≤◌, ◌<◌, length};
 ghost use Rattle.octets.specs.Numbers.{big_endian, bytes_at};
 

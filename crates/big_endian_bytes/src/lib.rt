@@ -1,4 +1,6 @@
 // Numbers as bytes, the highest byte first.
+#![tactic(auto)]
+
 ghost use Rattle.std.specs.Prelude.{◌≡◌};
 ghost use Rattle.octets.specs.Numbers.{to_big_endian};
 

@@ -1,4 +1,6 @@
 // Byte strings in blocks of 16 bytes.
+#![tactic(auto)]
+
 ghost use Rattle.std.specs.Prelude.{◌≡◌, ◌≤◌, min, length, drop};
 ghost use Rattle.octets.specs.Blocks.{zero_padded};
 

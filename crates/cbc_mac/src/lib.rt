@@ -1,4 +1,6 @@
 // The cipher block chaining message authentication code (SP 800-38C, 6.1) with AES.
+#![tactic(auto)]
+
 ghost use Rattle.std.specs.Prelude.{◌≡◌, ◌<◌, length};
 ghost use Rattle.aes.specs.Tables.{SubMixTable};
 ghost use Rattle.aes.specs.Cipher.{cipher};

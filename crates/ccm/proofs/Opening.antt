@@ -8,7 +8,7 @@ use Rattle.octets.specs.Same.{same_bytes}
 use Rattle.ccm.specs.Clauses.{Sealed, Opened}
 use Rattle.ccm.specs.Ccm.{encrypt, tag}
 use Rattle.ccm.specs.General as general
-use Rattle.ccm.proofs.CcmLaws.{encrypt-twice}
+use Rattle.ccm.proofs.CcmLaws.{encrypt_twice}
 
 -- r says whether the tag received is u
 module _ (E : List ℕ → List ℕ) (nonce aad received body mid u : List ℕ) (em : mid ≡ encrypt E nonce body) (eu : u ≡ tag E nonce aad mid)
@@ -19,11 +19,11 @@ module _ (E : List ℕ → List ℕ) (nonce aad received body mid u : List ℕ) 
       let q : same_bytes received (tag E nonce aad (encrypt E nonce body)) ≡ true = rw (← em, ← eu) (sym er ∙ s) in
       record { right = rw q s; bytes = rw q em }
 
-  pub opened-wrong : (last : List ℕ) → r ≡ false → last ≡ encrypt E nonce mid → Opened E nonce aad received body last r
+  pub opened_wrong : (last : List ℕ) → r ≡ false → last ≡ encrypt E nonce mid → Opened E nonce aad received body last r
   unfolding general.decrypt
-  opened-wrong last s el =
+  opened_wrong last s el =
       let q : same_bytes received (tag E nonce aad (encrypt E nonce body)) ≡ false = rw (← em, ← eu) (sym er ∙ s) in
-      record { right = rw q s; bytes = rw q (el ∙ ap (encrypt E nonce) em ∙ encrypt-twice E 4 nonce body) }
+      record { right = rw q s; bytes = rw q (el ∙ ap (encrypt E nonce) em ∙ encrypt_twice E 4 nonce body) }
 
 -- the same cipher by another name
 pub sealed_under : {E F : List ℕ → List ℕ} {nonce aad text text' t : List ℕ} → E ≡ F → Sealed E nonce aad text text' t → Sealed F nonce aad text text' t

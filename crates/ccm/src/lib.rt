@@ -1,4 +1,6 @@
 // CCM (SP 800-38C) with AES under a key of 128 or 256 bits, a nonce of 11 bytes, 32 bytes of associated data and a tag of 16 bytes; the text in place.
+#![tactic(auto)]
+
 ghost use Rattle.std.specs.Prelude.{true, ◌≡◌, ◌<◌, length};
 ghost use Rattle.aes.specs.Tables.{SubMixTable};
 ghost use Rattle.aes.specs.Cipher.{cipher};

@@ -1,4 +1,6 @@
 // The formatting of the input data (SP 800-38C, appendix A), for a nonce of 11 bytes and 32 bytes of associated data.
+#![tactic(auto)]
+
 ghost use Rattle.std.specs.Prelude.{◌≡◌, ◌∷◌};
 ghost use Rattle.ccm_formatting.specs.Formatting.{associated};
 

@@ -13,32 +13,32 @@ use lib.Seq.{paste, length-paste, length-take-le}
 use Rattle.octets.specs.Blocks.{block_count}
 use Rattle.octets.proofs.Paste.{part_all}
 use Rattle.cbc_mac.specs.CbcMac.{cbc_mac}
-use Rattle.cmac.specs.Cmac.{blocks_before, lastBlock, cmac}
+use Rattle.cmac.specs.Cmac.{blocks_before, last_block, cmac}
 use Rattle.cmac.specs.declared.Mac.{Mac}
 use Rattle.cmac.specs.Running.{waiting, room, within, beyond, updated, finished, Holds}
-use Rattle.cmac.proofs.Streaming.{chain-front, recounted, running-within, running-beyond, running-end}
+use Rattle.cmac.proofs.Streaming.{chain-front, recounted, running_within, running_beyond, running_end}
 
 same_state : {c c' b b' : List ℕ} {f f' : ℕ} → c ≡ c' → b ≡ b' → f ≡ f'
     → ◌≡◌ {A = Mac} (record { chain = c; buffer = b; filled = f }) (record { chain = c'; buffer = b'; filled = f' })
 same_state ec eb ef = λ i. record { chain = ec i; buffer = eb i; filled = ef i }
 
 module _ (E : List ℕ → List ℕ) (s : Mac) where
-  -- ---- by the way that the code takes, where n bytes wait
+  -- ____ by the way that the code takes, where n bytes wait
 
   module _ (x : List ℕ) where
-    abbrev updatedIf : Bool → Mac
-    updatedIf b = cond b (within s x) (beyond E s x)
+    abbrev updated_if : Bool → Mac
+    updated_if b = cond b (within s x) (beyond E s x)
 
     abbrev Within : ℕ → Type 0
     Within n = (buffer' : List ℕ) → length x ≤ 16 - n → buffer' ≡ paste s.buffer n x (length x)
         → ◌≡◌ {A = Mac} (record { chain = s.chain; buffer = buffer'; filled = n + length x }) (updated E s x)
 
-    within-now : Within (waiting s)
+    within_now : Within (waiting s)
     unfolding updated within
-    within-now buffer' fits eb = same_state refl eb refl ∙ sym (ap updatedIf (le-leb (length x) (room s) fits))
+    within_now buffer' fits eb = same_state refl eb refl ∙ sym (ap updated_if (le-leb (length x) (room s) fits))
 
     pub updated-within : (n : ℕ) → n ≡ waiting s → Within n
-    updated-within n e = subst Within (sym e) within-now
+    updated-within n e = subst Within (sym e) within_now
 
     -- the code lends a part from n on as `take (length x - n) (drop n x)`
     abbrev Beyond : ℕ → Type 0
@@ -61,9 +61,9 @@ module _ (E : List ℕ → List ℕ) (s : Mac) where
     before : (k : ℕ) → (k - 1) / 16 * 16 ≤ k
     before k = omega arith
 
-    beyond-now : Beyond (waiting s)
+    beyond_now : Beyond (waiting s)
     unfolding updated beyond
-    beyond-now buffer₁ buffer₂ first next passes size e₁ ef en e₂ =
+    beyond_now buffer₁ buffer₂ first next passes size e₁ ef en e₂ =
         let x₁ : List ℕ = take (room s) x in
         let block : List ℕ = paste s.buffer (waiting s) x₁ (length x₁) in
         let x₂ : List ℕ = take (length x - room s) (drop (room s) x) in
@@ -86,27 +86,27 @@ module _ (E : List ℕ → List ℕ) (s : Mac) where
         ∙ ap (λ (l : List ℕ). cbc_mac E (cbc_mac E s.chain block 1) l (blocks_before (length l))) d₂ in
         let b₂ = e₂ ∙ ap₂ (λ (b l : List ℕ). paste b 0 l (length l)) e₁ d₃ in
         let f₂ : length x₂ - w ≡ length (drop (blocks_before (length rest) * 16) rest) = sym (length-drop w x₂) ∙ ap length (sym (part_all x₂ w) ∙ d₃) in
-        same_state c₂ b₂ f₂ ∙ sym (ap updatedIf (lt-leb (length x) (room s) passes))
+        same_state c₂ b₂ f₂ ∙ sym (ap updated_if (lt-leb (length x) (room s) passes))
 
     pub updated-beyond : (n : ℕ) → n ≡ waiting s → Beyond n
-    updated-beyond n e = subst Beyond (sym e) beyond-now
+    updated-beyond n e = subst Beyond (sym e) beyond_now
 
-  pub finished_by : (n : ℕ) → n ≡ waiting s → {last r : List ℕ} → last ≡ lastBlock E (take n s.buffer) → length last ≡ 16
+  pub finished_by : (n : ℕ) → n ≡ waiting s → {last r : List ℕ} → last ≡ last_block E (take n s.buffer) → length last ≡ 16
       → r ≡ cbc_mac E s.chain last (block_count (length last)) → r ≡ finished E s
   unfolding finished
   finished_by n e {last} {r} el size er =
       er
       ∙ ap (λ (k : ℕ). cbc_mac E s.chain last (block_count k)) size
-      ∙ ap (λ (l : List ℕ). cbc_mac E s.chain l 1) (el ∙ ap (λ (k : ℕ). lastBlock E (take k s.buffer)) e)
+      ∙ ap (λ (l : List ℕ). cbc_mac E s.chain l 1) (el ∙ ap (λ (k : ℕ). last_block E (take k s.buffer)) e)
 
--- ---- of a state that holds a message
+-- ____ of a state that holds a message
 
 module _ (E : List ℕ → List ℕ) (s : Mac) (m x : List ℕ) (h : Holds s E m) where
   held : (b : Bool) → leb (length x) (room s) ≡ b → Holds (updated E s x) E (m ++ x)
   held true e =
       let fits = leb-true (length x) (room s) e in
       subst (λ (t : Mac). Holds t E (m ++ x)) (updated-within E s x (waiting s) refl _ fits refl)
-      (running-within E (recounted E (waiting s) refl h) x (omega (arith, fits)) _ refl)
+      (running_within E (recounted E (waiting s) refl h) x (omega (arith, fits)) _ refl)
   held false e =
       let passes = leb-false (length x) (room s) e in
       let x₁ : List ℕ = take (room s) x in
@@ -115,7 +115,7 @@ module _ (E : List ℕ → List ℕ) (s : Mac) (m x : List ℕ) (h : Holds s E m
       let size : length (paste s.buffer (waiting s) x₁ (length x₁)) ≡ 16 =
       length-paste s.buffer (waiting s) x₁ (length x₁) (omega (arith, h.room, l₁)) (le_refl (length x₁)) ∙ h.room in
       subst (λ (t : Mac). Holds t E (m ++ x)) (updated-beyond E s x (waiting s) refl _ _ _ _ passes size refl refl refl refl)
-      (running-beyond E h' x (omega (arith, passes)) refl refl refl refl)
+      (running_beyond E h' x (omega (arith, passes)) refl refl refl refl)
 
   -- it takes in a piece
   pub updated-holds : Holds (updated E s x) E (m ++ x)
@@ -128,7 +128,7 @@ takes_in {E} s x {s'} {m} e h = subst (λ (t : Mac). Holds t E (m ++ x)) (sym e)
 -- and it ends
 pub finished_is : (E : List ℕ → List ℕ) (s : Mac) (m : List ℕ) → Holds s E m → finished E s ≡ cmac E m
 unfolding finished
-finished_is E s m h = running-end E (recounted E (waiting s) refl h) _ refl
+finished_is E s m h = running_end E (recounted E (waiting s) refl h) _ refl
 
 pub ends_with : {E : List ℕ → List ℕ} (s : Mac) {m r : List ℕ} → r ≡ finished E s → Holds s E m → r ≡ cmac E m
 ends_with {E} s {m} e h = e ∙ finished_is E s m h

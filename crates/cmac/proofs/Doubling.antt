@@ -47,10 +47,10 @@ sum_fits hi lo l =
     let e = low_bits hi in
     let a : hi % 2 ^ 63 < 2 ^ 63 = omega arith in
     let c : lo / 2 ^ 63 < 2 = omega arith in
-    ap-lt e a c
+    ap_lt e a c
   where
-    ap-lt : hi * 2 % 2 ^ 64 ≡ hi % 2 ^ 63 * 2 → hi % 2 ^ 63 < 2 ^ 63 → lo / 2 ^ 63 < 2 → hi * 2 % 2 ^ 64 + lo / 2 ^ 63 < 2 ^ 64
-    ap-lt e a c = rw e (omega (arith, a, c))
+    ap_lt : hi * 2 % 2 ^ 64 ≡ hi % 2 ^ 63 * 2 → hi % 2 ^ 63 < 2 ^ 63 → lo / 2 ^ 63 < 2 → hi * 2 % 2 ^ 64 + lo / 2 ^ 63 < 2 ^ 64
+    ap_lt e a c = rw e (omega (arith, a, c))
 
 pub double_words : (hi lo : ℕ) → lo < 2 ^ 64
     → to_big_endian 8 (hi * 2 % 2 ^ 64 + lo / 2 ^ 63) ++ to_big_endian 8 (lo * 2 % 2 ^ 64) ≡ to_big_endian 16 (2 * (hi * 2 ^ 64 + lo))

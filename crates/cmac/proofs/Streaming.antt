@@ -12,7 +12,7 @@ use Rattle.octets.specs.Xor.{xor}
 use Rattle.octets.proofs.BlockLaws.{over-append}
 use Rattle.octets.proofs.Paste.{paste_all, part_all}
 use Rattle.cbc_mac.specs.CbcMac.{cbc_mac}
-use Rattle.cmac.specs.Cmac.{blocks_before, lastBlock, cmac}
+use Rattle.cmac.specs.Cmac.{blocks_before, last_block, cmac}
 use Rattle.cmac.specs.Running.{Running}
 
 -- a buffer into which x was copied behind its first n bytes
@@ -58,9 +58,9 @@ module _ (E : List ℕ → List ℕ) where
         chained = s.chained ∙ ap (λ (x : List ℕ). over zeros x n) j ∙ chain-front zeros (take (16 * n) m) (drop (16 * n) m) n l;
       }
 
-  running-of : {chain buffer : List ℕ} {filled : ℕ} {m : List ℕ} → Cut chain (take filled buffer) m → length buffer ≡ 16
+  running_of : {chain buffer : List ℕ} {filled : ℕ} {m : List ℕ} → Cut chain (take filled buffer) m → length buffer ≡ 16
       → filled ≡ length (take filled buffer) → Running E chain buffer filled m
-  running-of {chain} {buffer} {filled} {m} c size e =
+  running_of {chain} {buffer} {filled} {m} c size e =
       let part = take filled buffer in
       let there : drop (16 * blocks_before (length m)) m ≡ part =
       ap (λ (k : ℕ). drop (16 * k) m) (sym c.number) ∙ ap (drop (16 * c.n)) c.joined ∙ drop_at c.whole part (16 * c.n) c.size in
@@ -74,18 +74,18 @@ module _ (E : List ℕ → List ℕ) where
         count = e ∙ ap length (sym there);
       }
 
-  pub running-start : (buffer : List ℕ) → length buffer ≡ 16 → Running E zeros buffer 0 []
+  pub running_start : (buffer : List ℕ) → length buffer ≡ 16 → Running E zeros buffer 0 []
   unfolding over_blocks
-  running-start buffer size = record { chained = refl; room = size; waits = refl; count = refl }
+  running_start buffer size = record { chained = refl; room = size; waits = refl; count = refl }
 
   -- how many bytes wait: none only where there was none
-  filled-fits : {chain buffer m : List ℕ} {filled : ℕ} → Running E chain buffer filled m → filled ≤ 16
-  filled-fits {chain} {buffer} {m} {filled} s = let l = length-drop (16 * blocks_before (length m)) m in omega (arith, s.count)
+  filled_fits : {chain buffer m : List ℕ} {filled : ℕ} → Running E chain buffer filled m → filled ≤ 16
+  filled_fits {chain} {buffer} {m} {filled} s = let l = length-drop (16 * blocks_before (length m)) m in omega (arith, s.count)
 
   -- the code asks how many bytes wait, and takes no more than 16 for an answer
   pub recounted : {chain buffer m : List ℕ} {filled : ℕ} (n : ℕ) → n ≡ min filled 16 → Running E chain buffer filled m → Running E chain buffer n m
   recounted {chain} {buffer} {m} {filled} n e s =
-      let same : filled ≡ n = omega (arith, filled-fits s) in
+      let same : filled ≡ n = omega (arith, filled_fits s) in
       subst (λ (k : ℕ). Running E chain buffer k m) same s
 
   module _ {chain buffer m : List ℕ} {filled : ℕ} (s : Running E chain buffer filled m) (x : List ℕ) where
@@ -102,9 +102,9 @@ module _ (E : List ℕ → List ℕ) where
     size_of = let l = length-drop (16 * blocks_before (length m)) m in omega (arith, s.count)
 
     -- a piece that the buffer has room for
-    pub running-within : filled + length x ≤ 16 → (buffer' : List ℕ) → buffer' ≡ paste buffer filled x (length x)
+    pub running_within : filled + length x ≤ 16 → (buffer' : List ℕ) → buffer' ≡ paste buffer filled x (length x)
         → Running E chain buffer' (filled + length x) (m ++ x)
-    running-within fits buffer' e =
+    running_within fits buffer' e =
         let c = cut_of s in
         let now : take (filled + length x) buffer' ≡ part ++ x =
         ap (take (filled + length x)) e ∙ filled_with buffer x filled (omega (arith, room)) in
@@ -119,10 +119,10 @@ module _ (E : List ℕ → List ℕ) where
           chained = c.chained;
         } in
         let l : filled + length x ≡ length (part ++ x) = sym (length-append part x ∙ ap (λ (k : ℕ). k + length x) part_length) in
-        running-of (subst (λ (p : List ℕ). Cut chain p (m ++ x)) (sym now) cut) size (l ∙ ap length (sym now))
+        running_of (subst (λ (p : List ℕ). Cut chain p (m ++ x)) (sym now) cut) size (l ∙ ap length (sym now))
 
     -- a piece that goes beyond it: x₁ fills the block, then the blocks of the rest x₂ before its last, and x₃ which waits
-    pub running-beyond : {buffer₁ buffer₂ first next : List ℕ}
+    pub running_beyond : {buffer₁ buffer₂ first next : List ℕ}
         → let x₁ : List ℕ = take (16 - filled) x in
         let x₂ : List ℕ = take (length x - (16 - filled)) (drop (16 - filled) x) in
         let w : ℕ = (length x₂ - 1) / 16 * 16 in
@@ -133,9 +133,9 @@ module _ (E : List ℕ → List ℕ) where
         → next ≡ over first (take w x₂) (block_count (length (take w x₂)))
         → buffer₂ ≡ paste buffer₁ 0 x₃ (length x₃)
         → Running E next buffer₂ (length x₂ - w) (m ++ x)
-    running-beyond {buffer₁} {buffer₂} {first} {next} beyond e₁ ef en e₂ =
+    running_beyond {buffer₁} {buffer₂} {first} {next} beyond e₁ ef en e₂ =
         let c = cut_of s in
-        let k = filled-fits s in
+        let k = filled_fits s in
         let r : ℕ = 16 - filled in
         let x₁ : List ℕ = take r x in
         let x₂ : List ℕ = take (length x - r) (drop r x) in
@@ -181,17 +181,17 @@ module _ (E : List ℕ → List ℕ) where
           number = let l = length-append m x in let i = c.number in omega (arith, size_of);
           chained = v₂;
         } in
-        running-of (subst (λ (p : List ℕ). Cut next p (m ++ x)) (sym now) cut) size (sym l₃ ∙ ap length (sym now))
+        running_of (subst (λ (p : List ℕ). Cut next p (m ++ x)) (sym now) cut) size (sym l₃ ∙ ap length (sym now))
 
   -- the last block
-  pub running-end : {chain buffer m : List ℕ} {filled : ℕ} → Running E chain buffer filled m → (r : List ℕ)
-      → r ≡ over chain (lastBlock E (take filled buffer)) 1 → r ≡ cmac E m
+  pub running_end : {chain buffer m : List ℕ} {filled : ℕ} → Running E chain buffer filled m → (r : List ℕ)
+      → r ≡ over chain (last_block E (take filled buffer)) 1 → r ≡ cmac E m
   unfolding cmac
-  running-end {chain} {buffer} {m} {filled} s r er =
+  running_end {chain} {buffer} {m} {filled} s r er =
       let n = blocks_before (length m) in
       let l : length (take (16 * n) m) ≡ 16 * n = length-take-le (16 * n) m (omega arith) in
       let v : chain ≡ over zeros (take (16 * n) m) n =
       s.chained ∙ ap (λ (x : List ℕ). over zeros x n) (sym (take-append-drop (16 * n) m)) ∙ chain-front zeros (take (16 * n) m) (drop (16 * n) m) n l in
       er
-      ∙ ap₂ (λ (a b : List ℕ). over a (lastBlock E b) 1) v s.waits
-      ∙ sym (chain-append zeros (take (16 * n) m) (lastBlock E (drop (16 * n) m)) n 1 l)
+      ∙ ap₂ (λ (a b : List ℕ). over a (last_block E b) 1) v s.waits
+      ∙ sym (chain-append zeros (take (16 * n) m) (last_block E (drop (16 * n) m)) n 1 l)

@@ -29,12 +29,12 @@ module _ (E : List ℕ → List ℕ) where
   k2 = doubled k1
 
   -- 6.2, step 4: M_n, of the last bytes
-  unfoldable pub lastBlock : List ℕ → List ℕ
-  lastBlock part = cond (eqb (length part) 16) (xor part k1) (xor (zero_padded 16 (part ++ (0x80 ∷ []))) k2)
+  unfoldable pub last_block : List ℕ → List ℕ
+  last_block part = cond (eqb (length part) 16) (xor part k1) (xor (zero_padded 16 (part ++ (0x80 ∷ []))) k2)
 
   -- 6.2, steps 2 to 4: M_1 to M_n
   abbrev pub formatted : List ℕ → List ℕ
-  formatted m = take (16 * blocks_before (length m)) m ++ lastBlock (drop (16 * blocks_before (length m)) m)
+  formatted m = take (16 * blocks_before (length m)) m ++ last_block (drop (16 * blocks_before (length m)) m)
 
   -- 6.2, steps 5 and 6: C_n
   unfoldable pub cmac : List ℕ → List ℕ

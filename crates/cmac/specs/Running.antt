@@ -4,14 +4,14 @@
 use Rattle.std.specs.Prelude.{◌≡◌, cond, List, ℕ, ◌+◌, ◌-◌, ◌*◌, min, leb, length, take, drop, replicate}
 use Rattle.std.proofs.Math.Seq.{paste}
 use Rattle.cbc_mac.specs.CbcMac.{cbc_mac}
-use Rattle.cmac.specs.Cmac.{blocks_before, lastBlock}
+use Rattle.cmac.specs.Cmac.{blocks_before, last_block}
 use Rattle.cmac.specs.declared.Mac.{Mac}
 
 -- the state to begin with
 unfoldable pub nothing_taken : Mac
 nothing_taken = record { chain = replicate 16 0; buffer = replicate 16 0; filled = 0 }
 
--- ---- any state
+-- ____ any state
 
 -- how many bytes wait in the buffer, and how many more it has room for
 abbrev pub waiting : Mac → ℕ
@@ -40,9 +40,9 @@ module _ (E : List ℕ → List ℕ) where
 
   -- the end: the block that waits is the last
   unfoldable pub finished : Mac → List ℕ
-  finished s = cbc_mac E s.chain (lastBlock E (take (waiting s) s.buffer)) 1
+  finished s = cbc_mac E s.chain (last_block E (take (waiting s) s.buffer)) 1
 
--- ---- the states that calls make
+-- ____ the states that calls make
 
 -- of the bytes m: the chain over the blocks before the last, and the last one, which waits in the first bytes of the buffer, since only
 -- the end of the message says whether it is the last

@@ -3,7 +3,7 @@ ghost use Rattle.std.specs.Prelude.{◌≡◌, ◌*◌, ◌≤◌, length};
 ghost use Rattle.octets.specs.Numbers.{big_endian, to_big_endian};
 ghost use Rattle.aes.specs.Tables.{SubMixTable};
 ghost use Rattle.aes.specs.BlockCipher.{block_cipher};
-ghost use Rattle.cmac.specs.Cmac.{doubled, lastBlock};
+ghost use Rattle.cmac.specs.Cmac.{doubled, last_block};
 
 use crate::cipher::encrypt_block;
 use runs::copy;
@@ -33,7 +33,7 @@ fn double(x: [u8; 16]) -> [u8; 16]
 
 pub fn last_block(t: &[u32; 256], keys: [[u8; 16]; 11], part: &[u8]) -> [u8; 16]
     requires { SubMixTable t.now × (length part.now ≤ 16) }
-    ensures { result ≡ lastBlock (block_cipher keys) part.now }
+    ensures { result ≡ last_block (block_cipher keys) part.now }
 {
     let k1 = double(encrypt_block(t, keys, [0u8; 16]));
     let k2 = double(k1);

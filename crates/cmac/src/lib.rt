@@ -1,4 +1,6 @@
 // AES-CMAC (SP 800-38B, RFC 4493), of a message at once and in pieces.
+#![tactic(auto)]
+
 mod cipher;
 mod last;
 

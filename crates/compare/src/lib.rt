@@ -1,4 +1,6 @@
 // Comparison of tags.
+#![tactic(auto)]
+
 ghost use Rattle.std.specs.Prelude.{◌≡◌};
 ghost use Rattle.octets.specs.Same.{same_bytes};
 

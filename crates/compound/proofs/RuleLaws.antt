@@ -14,20 +14,20 @@ use Rattle.protocol.specs.InnerHeader.{is_inner_header, is_related, Envelope, be
 use Rattle.protocol.specs.Compound.{first_header_tests, next_header_tests}
 
 module _ (m : Bytes) (e : Envelope) where
-  pub first-11 : length m < 64 → 11 ≡ first_of (first_header_tests m e)
-  first-11 h = rw (lt-ltb (length m) 64 h)
+  pub first_11 : length m < 64 → 11 ≡ first_of (first_header_tests m e)
+  first_11 h = rw (lt-ltb (length m) 64 h)
 
   module _ (long : 64 ≤ length m) where
-    pub first-12 : is_inner_header m 0 ≡ false → 12 ≡ first_of (first_header_tests m e)
-    first-12 a = rw (le-ltb (length m) 64 long, a)
+    pub first_12 : is_inner_header m 0 ≡ false → 12 ≡ first_of (first_header_tests m e)
+    first_12 a = rw (le-ltb (length m) 64 long, a)
 
     module _ (a : is_inner_header m 0 ≡ true) where
-      pub first-13 : is_related m 0 ≡ true → 13 ≡ first_of (first_header_tests m e)
-      first-13 b = rw (le-ltb (length m) 64 long, a, b)
+      pub first_13 : is_related m 0 ≡ true → 13 ≡ first_of (first_header_tests m e)
+      first_13 b = rw (le-ltb (length m) 64 long, a, b)
 
       module _ (b : is_related m 0 ≡ false) where
-        pub first-14 : belongs m e 0 ≡ false → 14 ≡ first_of (first_header_tests m e)
-        first-14 c = rw (le-ltb (length m) 64 long, a, b, c)
+        pub first_14 : belongs m e 0 ≡ false → 14 ≡ first_of (first_header_tests m e)
+        first_14 c = rw (le-ltb (length m) 64 long, a, b, c)
 
         pub first-none : belongs m e 0 ≡ true → 0 ≡ first_of (first_header_tests m e)
         first-none c = rw (le-ltb (length m) 64 long, a, b, c)
@@ -42,29 +42,29 @@ near_end l p d h = go (ltb (l - p - 64) d) refl
 
 -- the code's test of the header d bytes after the one at p, which is wholly inside
 module _ (m : Bytes) (e : Envelope) (p d : ℕ) (here : p + 64 ≤ length m) where
-  by-the-sum : (ltb d 64 || ltb (length m - p - 64) d) ≡ (ltb d 64 || ltb (length m) (p + d + 64))
-  by-the-sum = ap (λ (b : Bool). ltb d 64 || b) (near_end (length m) p d here)
+  by_the_sum : (ltb d 64 || ltb (length m - p - 64) d) ≡ (ltb d 64 || ltb (length m) (p + d + 64))
+  by_the_sum = ap (λ (b : Bool). ltb d 64 || b) (near_end (length m) p d here)
 
-  pub next-15 : (ltb d 64 || ltb (length m - p - 64) d) ≡ true → 15 ≡ first_of (next_header_tests m e p d)
-  next-15 o = rw (sym by-the-sum ∙ o)
+  pub next_15 : (ltb d 64 || ltb (length m - p - 64) d) ≡ true → 15 ≡ first_of (next_header_tests m e p d)
+  next_15 o = rw (sym by_the_sum ∙ o)
 
   module _ (o : (ltb d 64 || ltb (length m - p - 64) d) ≡ false) where
     within : (ltb d 64 || ltb (length m) (p + d + 64)) ≡ false
-    within = sym by-the-sum ∙ o
+    within = sym by_the_sum ∙ o
 
     pub next-inside : p + d + 64 ≤ length m
     next-inside = ltb-false (length m) (p + d + 64) (or_false (ltb d 64) (ltb (length m) (p + d + 64)) within).1
 
-    pub next-16 : (d % 8 ≡ 0 → ⊥) → 16 ≡ first_of (next_header_tests m e p d)
-    next-16 h = rw (within, ne_eqb (d % 8) 0 h)
+    pub next_16 : (d % 8 ≡ 0 → ⊥) → 16 ≡ first_of (next_header_tests m e p d)
+    next_16 h = rw (within, ne_eqb (d % 8) 0 h)
 
     module _ (even : d % 8 ≡ 0) where
-      pub next-12 : is_inner_header m (p + d) ≡ false → 12 ≡ first_of (next_header_tests m e p d)
-      next-12 a = rw (within, eq-eqb (d % 8) 0 even, a)
+      pub next_12 : is_inner_header m (p + d) ≡ false → 12 ≡ first_of (next_header_tests m e p d)
+      next_12 a = rw (within, eq-eqb (d % 8) 0 even, a)
 
       module _ (a : is_inner_header m (p + d) ≡ true) where
-        pub next-14 : (not (is_related m (p + d)) && not (belongs m e (p + d))) ≡ true → 14 ≡ first_of (next_header_tests m e p d)
-        next-14 b = rw (within, eq-eqb (d % 8) 0 even, a, b)
+        pub next_14 : (not (is_related m (p + d)) && not (belongs m e (p + d))) ≡ true → 14 ≡ first_of (next_header_tests m e p d)
+        next_14 b = rw (within, eq-eqb (d % 8) 0 even, a, b)
 
         pub next-none : (not (is_related m (p + d)) && not (belongs m e (p + d))) ≡ false → 0 ≡ first_of (next_header_tests m e p d)
         next-none b = rw (within, eq-eqb (d % 8) 0 even, a, b)

@@ -36,9 +36,9 @@ fuel_next l n h = omega arith
 
 -- the first header, whose tests say k
 module _ (m : Bytes) (e : Envelope) (k : ℕ) (says : k ≡ first_of (first_header_tests m e)) where
-  refused-at-once : (k ≡ 0 → ⊥) → walk m e ≡ refused k
+  refused-at_once : (k ≡ 0 → ⊥) → walk m e ≡ refused k
   unfolding walk
-  refused-at-once h = refuses (first_header_tests m e) (walk_on (length m) m e 0 1) k says h
+  refused-at_once h = refuses (first_header_tests m e) (walk_on (length m) m e 0 1) k says h
 
   begins : k ≡ 0 → Walking m e 0 1
   unfolding walk
@@ -52,30 +52,30 @@ module _ (m : Bytes) (e : Envelope) (k : ℕ) (says : k ≡ first_of (first_head
         so_far = judge-passed (first_header_tests m e) (walk_on (length m) m e 0 1) none ∙ ap (λ (j : ℕ). walk_on j m e 0 1) (fuel_start (length m));
       }
 
-  pub first-judged : Judged m e 0 0 0 k
-  first-judged = record { stops = refused-at-once; goes_on = begins }
+  pub first_judged : Judged m e 0 0 0 k
+  first_judged = record { stops = refused-at_once; goes_on = begins }
 
 -- the header at p, which says that the next one begins d bytes on
 module _ (m : Bytes) (e : Envelope) (p n : ℕ) (w : Walking m e p n) (d : ℕ) (is : d ≡ next_command m p) where
-  now-at : walk m e ≡ walk_on (suc (length m - n)) m e p n
-  now-at =
+  now_at : walk m e ≡ walk_on (suc (length m - n)) m e p n
+  now_at =
       let a = w.inside in
       let b = w.counted in
       w.so_far ∙ ap (λ (j : ℕ). walk_on j m e p n) (fuel_turn (length m) n (omega arith))
 
   pub ends : d ≡ 0 → walk m e ≡ done n
-  ends z = now-at ∙ rw (← is, eq-eqb d 0 z)
+  ends z = now_at ∙ rw (← is, eq-eqb d 0 z)
 
   -- and whose tests say k
   module _ (more : d ≡ 0 → ⊥) (k : ℕ) (says : k ≡ first_of (next_header_tests m e p d)) where
     judged : walk m e ≡ judge (next_header_tests m e p d) (walk_on (length m - n) m e (p + d) (n + 1))
-    judged = now-at ∙ rw (← is, ne_eqb d 0 more)
+    judged = now_at ∙ rw (← is, ne_eqb d 0 more)
 
-    next-stops : (k ≡ 0 → ⊥) → walk m e ≡ refused k
-    next-stops h = judged ∙ refuses (next_header_tests m e p d) (walk_on (length m - n) m e (p + d) (n + 1)) k says h
+    next_stops : (k ≡ 0 → ⊥) → walk m e ≡ refused k
+    next_stops h = judged ∙ refuses (next_header_tests m e p d) (walk_on (length m - n) m e (p + d) (n + 1)) k says h
 
-    next-walks : k ≡ 0 → Walking m e (p + d) (n + 1)
-    next-walks z =
+    next_walks : k ≡ 0 → Walking m e (p + d) (n + 1)
+    next_walks z =
         let none : NoneApplies (next_header_tests m e p d) = passes (next_header_tests m e p d) k refl says z in
         let within = or_false (ltb d 64) (ltb (length m) (p + d + 64)) none.0 in
         let far : 64 ≤ d = ltb-false d 64 within.0 in
@@ -92,5 +92,5 @@ module _ (m : Bytes) (e : Envelope) (p n : ℕ) (w : Walking m e p n) (d : ℕ) 
               ∙ ap (λ (j : ℕ). walk_on j m e (p + d) (n + 1)) (fuel_next (length m) n (omega arith));
         }
 
-    pub next-judged : Judged m e p d n k
-    next-judged = record { stops = next-stops; goes_on = next-walks }
+    pub next_judged : Judged m e p d n k
+    next_judged = record { stops = next_stops; goes_on = next_walks }

@@ -1,4 +1,6 @@
 // The walk over the headers of a compounded message (RULES 9).
+#![tactic(auto)]
+
 mod header;
 mod rules;
 

@@ -1,5 +1,7 @@
 // What a connection agreed on (RULES 1 and 3). Every function above takes it by value, and finds the limits and the numbers of dialects and
 // ciphers here too.
+#![tactic(auto)]
+
 ghost use Rattle.std.specs.Prelude.{◌≡◌};
 ghost use Rattle.protocol.specs.Connection.{encrypts, cipher_used, uses_gcm, uses_wide};
 ghost use Rattle.connection.specs.Reading.{bit_of, connection_of, under_key};

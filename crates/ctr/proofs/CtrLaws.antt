@@ -9,31 +9,31 @@ use lib.ListN.{length, get_or, take, drop}
 use lib.Seq.{paste, drop-paste}
 use Rattle.octets.specs.Numbers.{to_big_endian}
 use Rattle.octets.specs.Xor.{xor_with, xor}
-use Rattle.octets.proofs.XorWith.{length-xorWith, xorWith-twice, drop-xor_with, take-xor_with}
+use Rattle.octets.proofs.XorWith.{length-xor_with, xor_with_twice, drop-xor_with, take-xor_with}
 use Rattle.octets.proofs.Paste.{paste_more, paste_all}
 use Rattle.ctr.specs.Ctr.{ctr, counter_blocks}
 
 module _ (E : List ℕ → List ℕ) (T : ℕ → List ℕ) where
   pub length-ctr : (text : List ℕ) → length (ctr E T text) ≡ length text
   unfolding ctr
-  length-ctr text = length-xorWith (λ i. get_or (E (T (i / 16))) (i % 16) 0) 0 text
+  length-ctr text = length-xor_with (λ i. get_or (E (T (i / 16))) (i % 16) 0) 0 text
 
-  pub ctr-twice : (text : List ℕ) → ctr E T (ctr E T text) ≡ text
+  pub ctr_twice : (text : List ℕ) → ctr E T (ctr E T text) ≡ text
   unfolding ctr
-  ctr-twice text = xorWith-twice (λ i. get_or (E (T (i / 16))) (i % 16) 0) 0 text
+  ctr_twice text = xor_with_twice (λ i. get_or (E (T (i / 16))) (i % 16) 0) 0 text
 
   -- a turn of the loop: output block j goes onto the m bytes from i = 16 j
-  ctr-turn : (d : List ℕ) (i j m : ℕ) (ks buf out : List ℕ) → i ≤ length d → i ≡ 16 * j → m ≤ 16
+  ctr_turn : (d : List ℕ) (i j m : ℕ) (ks buf out : List ℕ) → i ≤ length d → i ≡ 16 * j → m ≤ 16
       → ks ≡ E (T j)
       → buf ≡ paste d 0 (ctr E T d) i
       → out ≡ paste buf i (xor (drop i buf) ks) m
       → out ≡ paste d 0 (ctr E T d) (i + m)
   unfolding ctr
-  ctr-turn d i j m ks buf out hi ei hm ek eb eo =
+  ctr_turn d i j m ks buf out hi ei hm ek eb eo =
       let K : ℕ → ℕ = λ k. get_or (E (T (k / 16))) (k % 16) 0 in
       let f : ℕ → ℕ = λ k. get_or ks k 0 in
       let s : List ℕ = xor_with K 0 d in
-      let ls : length s ≡ length d = length-xorWith K 0 d in
+      let ls : length s ≡ length d = length-xor_with K 0 d in
       let z : 0 + i ≡ i = zero-add i in
       let same : (k : ℕ) → k < m → f (0 + k) ≡ K (i + k) =
       λ k l.
@@ -65,4 +65,4 @@ pub counter_turn : (E : List ℕ → List ℕ) (prefix : List ℕ) (first n : �
     → out ≡ paste d 0 (ctr E (counter_blocks prefix first) d) (i + m)
 counter_turn E prefix first n d i m ks buf out hn hi ei hm ek =
     let e : n ≡ first + (n - first) = omega arith in
-    ctr-turn E (counter_blocks prefix first) d i (n - first) m ks buf out hi ei hm (ek ∙ ap (λ (k : ℕ). E (prefix ++ to_big_endian 4 k)) e)
+    ctr_turn E (counter_blocks prefix first) d i (n - first) m ks buf out hi ei hm (ek ∙ ap (λ (k : ℕ). E (prefix ++ to_big_endian 4 k)) e)

@@ -1,4 +1,6 @@
 // Counter mode (SP 800-38A, 6.5) with AES under round keys of any number, in place.
+#![tactic(auto)]
+
 ghost use Rattle.std.specs.Prelude.{◌≡◌, ◌++◌, ◌+◌, ◌<◌, ◌^◌, length};
 ghost use Rattle.aes.specs.Tables.{SubMixTable};
 ghost use Rattle.octets.specs.Numbers.{to_big_endian};

@@ -38,20 +38,20 @@ module _ (sha512 : Bytes → Bytes) where
   over v [] = v
   over v (m ∷ ms) = over (sha512 (v ++ m)) ms
 
-  unfoldable pub stringsOver : Bytes → List Bytes → List Bytes
-  stringsOver v [] = []
-  stringsOver v (m ∷ ms) = (v ++ m) ∷ stringsOver (sha512 (v ++ m)) ms
+  unfoldable pub strings_over : Bytes → List Bytes → List Bytes
+  strings_over v [] = []
+  strings_over v (m ∷ ms) = (v ++ m) ∷ strings_over (sha512 (v ++ m)) ms
 
   -- a list, then another
-  pub over-then : (v : Bytes) (ms ns : List Bytes) → over v (ms ++ ns) ≡ over (over v ms) ns
+  pub over_then : (v : Bytes) (ms ns : List Bytes) → over v (ms ++ ns) ≡ over (over v ms) ns
   unfolding over
-  over-then v [] ns = refl
-  over-then v (m ∷ ms) ns = over-then (sha512 (v ++ m)) ms ns
+  over_then v [] ns = refl
+  over_then v (m ∷ ms) ns = over_then (sha512 (v ++ m)) ms ns
 
-  pub strings-then : (v : Bytes) (ms ns : List Bytes) → stringsOver v (ms ++ ns) ≡ stringsOver v ms ++ stringsOver (over v ms) ns
-  unfolding over stringsOver
-  strings-then v [] ns = refl
-  strings-then v (m ∷ ms) ns = ap (λ (r : List Bytes). (v ++ m) ∷ r) (strings-then (sha512 (v ++ m)) ms ns)
+  pub strings_then : (v : Bytes) (ms ns : List Bytes) → strings_over v (ms ++ ns) ≡ strings_over v ms ++ strings_over (over v ms) ns
+  unfolding over strings_over
+  strings_then v [] ns = refl
+  strings_then v (m ∷ ms) ns = ap (λ (r : List Bytes). (v ++ m) ∷ r) (strings_then (sha512 (v ++ m)) ms ns)
 
   abbrev pub Found : List Bytes → Type 0
   Found ss = Collision sha512 ss ⊎ ZeroHash sha512 ss
@@ -74,7 +74,7 @@ module _ (sha512 : Bytes → Bytes) where
     over-length v [] l = l
     over-length v (m ∷ ms) l = over-length (sha512 (v ++ m)) ms (size (v ++ m))
 
-    -- ---- the heart: from the ends of the two lists. Here the last message comes first
+    -- ____ the heart: from the ends of the two lists. Here the last message comes first
 
     value : List Bytes → Bytes
     value [] = fresh_chain
@@ -126,42 +126,42 @@ module _ (sha512 : Bytes → Bytes) where
               same_hash = e;
             }))
 
-    -- ---- the first message comes first
+    -- ____ the first message comes first
 
     value-is : (ms acc : List Bytes) → over (value acc) ms ≡ value (reverse_aux ms acc)
     unfolding over value
     value-is [] acc = refl
     value-is (m ∷ ms) acc = value-is ms (m ∷ acc)
 
-    strings-in : (ms acc : List Bytes) (x : Bytes)
-        → Memᴰ x (strings (reverse_aux ms acc)) → Memᴰ x (stringsOver (value acc) ms) ⊎ Memᴰ x (strings acc)
-    unfolding value strings stringsOver
-    strings-in [] acc x h = inr h
-    strings-in (m ∷ ms) acc x h = go (strings-in ms (m ∷ acc) x h)
+    strings_in : (ms acc : List Bytes) (x : Bytes)
+        → Memᴰ x (strings (reverse_aux ms acc)) → Memᴰ x (strings_over (value acc) ms) ⊎ Memᴰ x (strings acc)
+    unfolding value strings strings_over
+    strings_in [] acc x h = inr h
+    strings_in (m ∷ ms) acc x h = go (strings_in ms (m ∷ acc) x h)
       where
-        front : (x ≡ value acc ++ m) ⊎ Memᴰ x (strings acc) → Memᴰ x (stringsOver (value acc) (m ∷ ms)) ⊎ Memᴰ x (strings acc)
+        front : (x ≡ value acc ++ m) ⊎ Memᴰ x (strings acc) → Memᴰ x (strings_over (value acc) (m ∷ ms)) ⊎ Memᴰ x (strings acc)
         front (inl e) = inl (Memᴰ.head e)
         front (inr q) = inr q
 
-        go : Memᴰ x (stringsOver (value (m ∷ acc)) ms) ⊎ Memᴰ x (strings (m ∷ acc))
-            → Memᴰ x (stringsOver (value acc) (m ∷ ms)) ⊎ Memᴰ x (strings acc)
+        go : Memᴰ x (strings_over (value (m ∷ acc)) ms) ⊎ Memᴰ x (strings (m ∷ acc))
+            → Memᴰ x (strings_over (value acc) (m ∷ ms)) ⊎ Memᴰ x (strings acc)
         go (inl p) = inl (Memᴰ.tail p)
         go (inr p) = front (Memᴰ.cases_cons p)
 
-    strings-all : (ms : List Bytes) (x : Bytes) → Memᴰ x (strings (reverse ms)) → Memᴰ x (stringsOver fresh_chain ms)
+    strings_all : (ms : List Bytes) (x : Bytes) → Memᴰ x (strings (reverse ms)) → Memᴰ x (strings_over fresh_chain ms)
     unfolding value strings
-    strings-all ms x h = go (strings-in ms [] x h)
+    strings_all ms x h = go (strings_in ms [] x h)
       where
-        go : Memᴰ x (stringsOver fresh_chain ms) ⊎ Memᴰ x [] → Memᴰ x (stringsOver fresh_chain ms)
+        go : Memᴰ x (strings_over fresh_chain ms) ⊎ Memᴰ x [] → Memᴰ x (strings_over fresh_chain ms)
         go (inl p) = p
         go (inr p) = elim p [ ]
 
     pub over_agree : (ms ns : List Bytes) → over fresh_chain ms ≡ over fresh_chain ns
-        → (ms ≡ ns) ⊎ Found (stringsOver fresh_chain ms ++ stringsOver fresh_chain ns)
+        → (ms ≡ ns) ⊎ Found (strings_over fresh_chain ms ++ strings_over fresh_chain ns)
     unfolding value
     over_agree ms ns e = go (agree (reverse ms) (reverse ns) (sym (value-is ms []) ∙ e ∙ value-is ns []))
       where
         go : (reverse ms ≡ reverse ns) ⊎ Found (strings (reverse ms) ++ strings (reverse ns))
-            → (ms ≡ ns) ⊎ Found (stringsOver fresh_chain ms ++ stringsOver fresh_chain ns)
+            → (ms ≡ ns) ⊎ Found (strings_over fresh_chain ms ++ strings_over fresh_chain ns)
         go (inl p) = inl (sym (reverse-reverse ms) ∙ ap reverse p ∙ reverse-reverse ns)
-        go (inr f) = inr (found-more (more _ _ _ _ (strings-all ms) (strings-all ns)) f)
+        go (inr f) = inr (found-more (more _ _ _ _ (strings_all ms) (strings_all ns)) f)

@@ -18,8 +18,8 @@ use Rattle.protocol.specs.Answer.{Test}
 use Rattle.protocol.specs.Connection.{is_gcm, uses_gcm, other, Connection, known_dialect, encrypts, cipher_used, uses_wide, cipher_key_bytes, longest_message}
 use Rattle.protocol.specs.TransformHeader.{nonce_end, header_of, protocol_id, inner, original_message_size, flags_of, session_id_of}
 use Rattle.protocol.specs.SessionTable.{Session, opening_key}
-use Rattle.protocol.specs.Transform.{Primitives, plaintextUnder}
-use Rattle.protocol.specs.Calls.{sent_by, opening_under, Lent, key_tests, message_tests, header_tests, record_tests, text_tests, openTests, plaintext, tests}
+use Rattle.protocol.specs.Transform.{Primitives, plaintext_under}
+use Rattle.protocol.specs.Calls.{sent_by, opening_under, Lent, key_tests, message_tests, header_tests, record_tests, text_tests, open_tests, plaintext, tests}
 use Rattle.protocol.specs.Suite.{suite, ciphers}
 use Rattle.protocol.proofs.Judging.{line}
 use Rattle.demands.specs.Lines.{None, no_line}
@@ -29,7 +29,7 @@ use Rattle.octets.proofs.BoolLaws.{and_true, both, or_true, or_left, or_right, o
 use Rattle.demands.proofs.LineLaws.{none_applies, past_line, past_part}
 use Rattle.demands.proofs.Carrying.{text-tag, text-ciphertext, plaintext-of}
 
--- ---- number 1
+-- ____ number 1
 
 module _ (c : Connection) where
   abbrev dialect : ℕ
@@ -41,8 +41,8 @@ module _ (c : Connection) where
   abbrev Known : Type 0
   Known = (dialect ≡ 0x0300) ⊎ ((dialect ≡ 0x0302) ⊎ (dialect ≡ 0x0311))
 
-  known-says : known_dialect dialect ≡ true → Known
-  known-says e = go (or_true (eqb dialect 0x0300 || eqb dialect 0x0302) (eqb dialect 0x0311) e)
+  known_says : known_dialect dialect ≡ true → Known
+  known_says e = go (or_true (eqb dialect 0x0300 || eqb dialect 0x0302) (eqb dialect 0x0311) e)
     where
       front : (eqb dialect 0x0300 ≡ true) ⊎ (eqb dialect 0x0302 ≡ true) → Known
       front (inl p) = inl (eqb-true dialect 0x0300 p)
@@ -52,40 +52,40 @@ module _ (c : Connection) where
       go (inl p) = front (or_true (eqb dialect 0x0300) (eqb dialect 0x0302) p)
       go (inr p) = inr (inr (eqb-true dialect 0x0311 p))
 
-  says-known : Known → known_dialect dialect ≡ true
-  says-known (inl p) = or_left _ (eqb dialect 0x0311) (or_left _ (eqb dialect 0x0302) (eq-eqb dialect 0x0300 p))
-  says-known (inr (inl p)) = or_left _ (eqb dialect 0x0311) (or_right (eqb dialect 0x0300) _ (eq-eqb dialect 0x0302 p))
-  says-known (inr (inr p)) = or_right (eqb dialect 0x0300 || eqb dialect 0x0302) _ (eq-eqb dialect 0x0311 p)
+  says_known : Known → known_dialect dialect ≡ true
+  says_known (inl p) = or_left _ (eqb dialect 0x0311) (or_left _ (eqb dialect 0x0302) (eq-eqb dialect 0x0300 p))
+  says_known (inr (inl p)) = or_left _ (eqb dialect 0x0311) (or_right (eqb dialect 0x0300) _ (eq-eqb dialect 0x0302 p))
+  says_known (inr (inr p)) = or_right (eqb dialect 0x0300 || eqb dialect 0x0302) _ (eq-eqb dialect 0x0311 p)
 
-  fits-says : (not (eqb dialect 0x0311) || leb cipher 4) ≡ true → dialect ≡ 0x0311 → cipher ≤ 4
-  fits-says e d = leb-true cipher 4 (rw (eq-eqb dialect 0x0311 d) at e)
+  fits_says : (not (eqb dialect 0x0311) || leb cipher 4) ≡ true → dialect ≡ 0x0311 → cipher ≤ 4
+  fits_says e d = leb-true cipher 4 (rw (eq-eqb dialect 0x0311 d) at e)
 
-  says-fits : (dialect ≡ 0x0311 → cipher ≤ 4) → (not (eqb dialect 0x0311) || leb cipher 4) ≡ true
-  says-fits h = go (eqb dialect 0x0311) refl
+  says_fits : (dialect ≡ 0x0311 → cipher ≤ 4) → (not (eqb dialect 0x0311) || leb cipher 4) ≡ true
+  says_fits h = go (eqb dialect 0x0311) refl
     where
       go : (b : Bool) → eqb dialect 0x0311 ≡ b → (not b || leb cipher 4) ≡ true
       go true e = le-leb cipher 4 (h (eqb-true dialect 0x0311 e))
       go false e = refl
 
-  pub encrypts-says : encrypts c ≡ true → Encrypts c
-  encrypts-says e =
+  pub encrypts_says : encrypts c ≡ true → Encrypts c
+  encrypts_says e =
       let a = and_true (known_dialect dialect && c.encryption && not (eqb cipher 0)) (not (eqb dialect 0x0311) || leb cipher 4) e in
       let b = and_true (known_dialect dialect && c.encryption) (not (eqb cipher 0)) a.0 in
       let d = and_true (known_dialect dialect) c.encryption b.0 in
       record {
-        dialect-known = known-says d.0;
+        dialect-known = known_says d.0;
         on = d.1;
         some-cipher = eqb-false cipher 0 (not-true (eqb cipher 0) b.1);
-        cipher-known = fits-says a.1;
+        cipher-known = fits_says a.1;
       }
 
-  says-encrypts : Encrypts c → encrypts c ≡ true
-  says-encrypts h =
+  says_encrypts : Encrypts c → encrypts c ≡ true
+  says_encrypts h =
       both _ _
-      (both _ _ (both (known_dialect dialect) c.encryption (says-known h.dialect-known) h.on) (ap not (ne_eqb cipher 0 h.some-cipher)))
-      (says-fits h.cipher-known)
+      (both _ _ (both (known_dialect dialect) c.encryption (says_known h.dialect-known) h.on) (ap not (ne_eqb cipher 0 h.some-cipher)))
+      (says_fits h.cipher-known)
 
--- ---- the parts of the lists
+-- ____ the parts of the lists
 
 key_passes : (c : Connection) (key : Bytes) → length key ≡ cipher_key_bytes (uses_wide c) → None (key_tests c key)
 key_passes c key l = past_line _ (ap not (eq-eqb (length key) (cipher_key_bytes (uses_wide c)) l)) no_line
@@ -115,19 +115,19 @@ module _ (c : Connection) (m : Bytes) where
   -- 1 to 5, and 29
   header-passes : HeaderChecks c m → None (message_tests c m ++ header_tests c (header_of m))
   header-passes h =
-      past_line _ (ap not (says-encrypts c h.encrypts))
+      past_line _ (ap not (says_encrypts c h.encrypts))
       (past_line _ (lt-leb (length m) 52 h.long)
       (past_line _ (le-ltb longest_message (length (inner m)) h.short)
       (past_line _ (ap not (ap (λ (x : Bytes). same_bytes x protocol_id) h.begins ∙ same_self protocol_id))
       (past_line _ (ap not (eq-eqb (flags_of m) 1 h.flags))
       (past_line _ (guarded (uses_gcm c) (eqb (nonce_end m) 0) (λ g. eq-eqb (nonce_end m) 0 (h.clean-nonce (gcm_says (cipher_used c) g)))) no_line)))))
 
-  header-says : not (encrypts c) ≡ false → leb (length m) 52 ≡ false → ltb longest_message (length (inner m)) ≡ false
+  header_says : not (encrypts c) ≡ false → leb (length m) 52 ≡ false → ltb longest_message (length (inner m)) ≡ false
       → not (same_bytes (take 4 m) protocol_id) ≡ false → not (eqb (flags_of m) 1) ≡ false
       → (uses_gcm c && not (eqb (nonce_end m) 0)) ≡ false → HeaderChecks c m
-  header-says at1 at2 at3 at4 at5 at29 =
+  header_says at1 at2 at3 at4 at5 at29 =
       record {
-        encrypts = encrypts-says c (not-false (encrypts c) at1);
+        encrypts = encrypts_says c (not-false (encrypts c) at1);
         long = leb-false (length m) 52 at2;
         short = ltb-false longest_message (length (inner m)) at3;
         begins = same_equal (take 4 m) protocol_id (not-false (same_bytes (take 4 m) protocol_id) at4);
@@ -150,12 +150,12 @@ text-passes m text p e size =
 -- an opening with the table that passes every line: of any primitives
 pub open_passes : (P : Primitives) (c : Connection) (m : Bytes) (s : Session) (p : Bytes) → HeaderChecks c m
     → s.used ≡ true → c.constrained ≡ false → (s.guest || s.anonymous) ≡ false → cipher_key_bytes s.wide ≡ cipher_key_bytes (uses_wide c)
-    → plaintext P c m s ≡ some p → original_message_size m ≡ length (inner m) → None (openTests P c m s).before
-unfolding openTests
+    → plaintext P c m s ≡ some p → original_message_size m ≡ length (inner m) → None (open_tests P c m s).before
+unfolding open_tests
 open_passes P c m s p h known free plain alike e size =
     past_part (header-passes c m h) (past_part (record_passes c s known free plain alike) (text-passes m (plaintext P c m s) p e size))
 
--- ---- 9 and 10, for the plaintext under a key
+-- ____ 9 and 10, for the plaintext under a key
 
 is_some_lem : (o : Option Bytes) → is_some o ≡ true → o ≡ some (get_or o [])
 is_some_lem none e = absurd (let z : ◌≡◌ {A = ℕ} 0 1 = cc in omega arith)
@@ -163,10 +163,10 @@ is_some_lem (some p) e = refl
 
 module _ (cipher : ℕ) (key m : Bytes) where
   abbrev text : Option Bytes
-  text = plaintextUnder ciphers cipher key m
+  text = plaintext_under ciphers cipher key m
 
-  carried-says : not (is_some text) ≡ false → not (eqb (original_message_size m) (length (inner m))) ≡ false → Carries cipher key m (get_or text [])
-  carried-says tag size =
+  carried_says : not (is_some text) ≡ false → not (eqb (original_message_size m) (length (inner m))) ≡ false → Carries cipher key m (get_or text [])
+  carried_says tag size =
       let there = is_some_lem text (not-false (is_some text) tag) in
       record {
         ciphertext = text-ciphertext cipher key m (get_or text []) there;
@@ -177,66 +177,66 @@ module _ (cipher : ℕ) (key m : Bytes) where
   pub carried-text : (p : Bytes) → Carries cipher key m p → text ≡ some p
   carried-text p h = plaintext-of cipher key m p h.ciphertext h.tag
 
--- ---- under one key
+-- ____ under one key
 
 module _ (c : Connection) (key : Bytes) (id : ℕ) (w : Lent) (n : ℕ) where
   abbrev m : Bytes
   m = w.message
 
   abbrev under : Option Bytes
-  under = plaintextUnder ciphers (cipher_used c) key m
+  under = plaintext_under ciphers (cipher_used c) key m
 
-  abbrev underLines : List Test
-  underLines = (tests suite (opening_under c key id) w).before
+  abbrev under_lines : List Test
+  under_lines = (tests suite (opening_under c key id) w).before
 
-  pub under-key-says : None underLines → Walked (get_or under []) (sent_by (other c.role) id) n → OpensUnderKey c key id m n
+  pub under_key_says : None under_lines → Walked (get_or under []) (sent_by (other c.role) id) n → OpensUnderKey c key id m n
   unfolding tests
-  under-key-says passed walked =
-      let at = line underLines (none_applies underLines passed) in
+  under_key_says passed walked =
+      let at = line under_lines (none_applies under_lines passed) in
       record {
         key_fits = eqb-true (length key) (cipher_key_bytes (uses_wide c)) (not-false _ (at 40));
-        header = header-says c m (at 1) (at 2) (at 3) (at 4) (at 5) (at 29);
+        header = header_says c m (at 1) (at 2) (at 3) (at 4) (at 5) (at 29);
         same_id = eqb-true (session_id_of m) id (not-false (eqb (session_id_of m) id) (at 6));
         text = get_or under [];
-        carried = carried-says (cipher_used c) key m (at 9) (at 10);
+        carried = carried_says (cipher_used c) key m (at 9) (at 10);
         walked = walked;
       }
 
-  pub says-under-key : OpensUnderKey c key id m n → None underLines
+  pub says_under_key : OpensUnderKey c key id m n → None under_lines
   unfolding tests
-  says-under-key o =
+  says_under_key o =
       past_part (key_passes c key o.key_fits)
       (past_part (header-passes c m o.header)
       (past_line _ (ap not (eq-eqb (session_id_of m) id o.same_id))
       (text-passes m under o.text (carried-text (cipher_used c) key m o.text o.carried) o.carried.size)))
 
--- ---- with the table
+-- ____ with the table
 
 module _ (c : Connection) (m : Bytes) (s : Session) (n : ℕ) where
-  abbrev recordLines : List Test
-  recordLines = (openTests suite c m s).before
+  abbrev record_lines : List Test
+  record_lines = (open_tests suite c m s).before
 
-  pub record-says : None recordLines → Walked (get_or (plaintext suite c m s) []) (sent_by (other c.role) (session_id_of m)) n → OpensWithRecord c m s n
-  unfolding openTests
-  record-says passed walked =
-      let at = line recordLines (none_applies recordLines passed) in
+  pub record_says : None record_lines → Walked (get_or (plaintext suite c m s) []) (sent_by (other c.role) (session_id_of m)) n → OpensWithRecord c m s n
+  unfolding open_tests
+  record_says passed walked =
+      let at = line record_lines (none_applies record_lines passed) in
       let g = or_false s.guest s.anonymous (at 8) in
       record {
-        header = header-says c m (at 1) (at 2) (at 3) (at 4) (at 5) (at 29);
+        header = header_says c m (at 1) (at 2) (at 3) (at 4) (at 5) (at 29);
         known = not-false s.used (at 6);
         unconstrained = at 7;
         not_guest = g.0;
         not_anonymous = g.1;
         same_size = eqb-true (cipher_key_bytes s.wide) (cipher_key_bytes (uses_wide c)) (not-false _ (at 35));
         text = get_or (plaintext suite c m s) [];
-        carried = carried-says (cipher_used c) (opening_key c.role s.keys) m (at 9) (at 10);
+        carried = carried_says (cipher_used c) (opening_key c.role s.keys) m (at 9) (at 10);
         walked = walked;
       }
 
-  pub record-text : (o : OpensWithRecord c m s n) → plaintext suite c m s ≡ some o.text
-  record-text o = carried-text (cipher_used c) (opening_key c.role s.keys) m o.text o.carried
+  pub record_text : (o : OpensWithRecord c m s n) → plaintext suite c m s ≡ some o.text
+  record_text o = carried-text (cipher_used c) (opening_key c.role s.keys) m o.text o.carried
 
-  pub says-record : OpensWithRecord c m s n → None recordLines
-  says-record o =
+  pub says_record : OpensWithRecord c m s n → None record_lines
+  says_record o =
       let plain = neither s.guest s.anonymous o.not-guest o.not-anonymous in
-      open_passes suite c m s o.text o.header o.known o.unconstrained plain o.same_size (record-text o) o.carried.size
+      open_passes suite c m s o.text o.header o.known o.unconstrained plain o.same_size (record_text o) o.carried.size

@@ -11,7 +11,7 @@ use Rattle.protocol.specs.Preauth.{FoldKind, status_allows}
 use Rattle.protocol.specs.Transform.{Primitives}
 use Rattle.protocol.specs.Calls.{Call, derivation, folding, fold_beginning, fold_piece, fold_finishing, sealing_under, opening_under, signing_under}
 use Rattle.protocol.specs.Calls.{verifying_under, adding, removing, stepping}
-use Rattle.protocol.specs.Calls.{sealing, opening, Lent, with_chain, sealTests, openTests, tests, effect, answer, left}
+use Rattle.protocol.specs.Calls.{sealing, opening, Lent, with_chain, seal_tests, open_tests, tests, effect, answer, left}
 use Rattle.protocol.specs.Calls.{sign_beginning, sign_piece, sign_finishing, verify_finishing}
 use Rattle.protocol.specs.Suite.{suite}
 use Rattle.demands.specs.Lines.{None, no_line}
@@ -21,7 +21,7 @@ use Rattle.demands.proofs.CallLaws.{left-done, left-refused}
 
 module _ (P : Primitives) where
   orders : (c : Call) (w : Lent) → numbers_tested (tests P c w) ≡ order c
-  unfolding tests sealTests openTests
+  unfolding tests seal_tests open_tests
   orders (derivation dialect cipher chain material) w = refl
   orders (folding kind m) w = refl
   orders (fold_beginning v) w = refl
@@ -41,7 +41,7 @@ module _ (P : Primitives) where
   orders (sealing c id) w = refl
   orders (opening c) w = refl
 
-  -- ---- not folded
+  -- ____ not folded
 
   mark-zero : (b : Bool) → ◌≡◌ {A = ℕ} (cond b 1 0) 0 → b ≡ false
   mark-zero true e = absurd (omega arith)

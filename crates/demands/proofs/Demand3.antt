@@ -5,19 +5,19 @@ use mathlib.Core.Bool.{true, ◌||◌}
 use Prim.Native.Nat.{ℕ}
 use Rattle.protocol.specs.Bytes.{Bytes}
 use Rattle.protocol.specs.Connection.{Role, client, server, other, is_wide, cipher_key_bytes, encrypts}
-use Rattle.protocol.specs.Keys.{smb_c2_s_cipher_key, smb_s2_c_cipher_key, derivedKeys}
-use Rattle.protocol.specs.SessionTable.{Session, sealing_key, record_of, newRecord}
+use Rattle.protocol.specs.Keys.{smb_c2_s_cipher_key, smb_s2_c_cipher_key, derived_keys}
+use Rattle.protocol.specs.SessionTable.{Session, sealing_key, record_of, new_record}
 use Rattle.protocol.specs.Transform.{Primitives}
 use Rattle.protocol.specs.Calls.{only_table}
 use Rattle.protocol.specs.Sound.{Sound}
 use Rattle.protocol.specs.Suite.{suite}
 use Rattle.protocol.proofs.SuiteLaws.{suite_sound}
-use Rattle.demands.specs.Chains.{sessionChain, Among}
+use Rattle.demands.specs.Chains.{session_chain, Among}
 use Rattle.demands.specs.Steps.{Step}
-use Rattle.demands.specs.Demand3.{Ends, end_connection, sessionAdded, madeAt, Premises, Seals, by_call, Opens, Demand3}
-use Rattle.demands.proofs.FoldLaws.{chains-agree, same-value}
-use Rattle.demands.proofs.Following.{Held, held, added-record, added-present, follows-all}
-use Rattle.demands.proofs.OpeningLaws.{SealedAs, seal-on, seal-as, opens}
+use Rattle.demands.specs.Demand3.{Ends, end_connection, session_added, made_at, Premises, Seals, by_call, Opens, Demand3}
+use Rattle.demands.proofs.FoldLaws.{chains_agree, same-value}
+use Rattle.demands.proofs.Following.{Held, held, added_record, added_present, follows_all}
+use Rattle.demands.proofs.OpeningLaws.{SealedAs, seal_on, seal_as, opens}
 
 other-other : (r : Role) → other (other r) ≡ r
 other-other client = refl
@@ -29,10 +29,10 @@ sealing_key_lem server x y e = ap (λ (h : Held). h.server_to_client) e
 
 module _ (P : Primitives) (sound : Sound P) (e : Ends) (h : Premises P e) where
   -- the record that the end r adds
-  abbrev record-at : Role → Session
-  record-at r = newRecord P.kdf (sessionAdded P e r)
+  abbrev record_at : Role → Session
+  record_at r = new_record P.kdf (session_added P e r)
 
-  same-chain : sessionChain P (e.chain_steps client) ≡ sessionChain P (e.chain_steps server)
+  same-chain : session_chain P (e.chain_steps client) ≡ session_chain P (e.chain_steps server)
   same-chain =
       same-value P sound.hash-length (e.chain_steps client) (e.chain_steps server) (h.in_order client) (h.in_order server) h.same-messages
 
@@ -40,47 +40,47 @@ module _ (P : Primitives) (sound : Sound P) (e : Ends) (h : Premises P e) where
   bytes = cipher_key_bytes (is_wide 0x0311 e.cipher)
 
   -- both ends hold the same cipher keys
-  cipher-keys : (q : Role) → sealing_key q (record-at client).keys ≡ sealing_key q (record-at server).keys
-  unfolding derivedKeys
+  cipher-keys : (q : Role) → sealing_key q (record_at client).keys ≡ sealing_key q (record_at server).keys
+  unfolding derived_keys
   cipher-keys client = λ i. P.kdf bytes (h.same_key i) smb_c2_s_cipher_key (same-chain i)
   cipher-keys server = λ i. P.kdf bytes (h.same_key i) smb_s2_c_cipher_key (same-chain i)
 
-  same_keys : (r q : Role) → sealing_key q (record-at (other r)).keys ≡ sealing_key q (record-at r).keys
+  same_keys : (r q : Role) → sealing_key q (record_at (other r)).keys ≡ sealing_key q (record_at r).keys
   same_keys client q = sym (cipher-keys q)
   same_keys server q = cipher-keys q
 
   -- whatever table a step at the end r gets, the session's record there is the one added, but for its counter
-  kept_at : (r : Role) (x : Step) → Among x (madeAt P e r) → held (record_of e.id x.lent.table) ≡ held (record-at r)
+  kept_at : (r : Role) (x : Step) → Among x (made_at P e r) → held (record_of e.id x.lent.table) ≡ held (record_at r)
   kept_at r x x-in =
-      let a = sessionAdded P e r in
+      let a = session_added P e r in
       let w = only_table (e.table_before r) in
       let success = h.added-with-success r in
-      (follows-all P e.id (e.steps r) _ (h.kept r) (added-present P a w 0 success) x x-in).same ∙ ap held (added-record P a w 0 success)
+      (follows_all P e.id (e.steps r) _ (h.kept r) (added_present P a w 0 success) x x-in).same ∙ ap held (added_record P a w 0 success)
 
   -- however m was sealed, it was under the session's key at that end
   sealed-as : (r : Role) (m sealed : Bytes) (n : ℕ) → Seals P e r m sealed n
-      → SealedAs P r e.cipher (sealing_key r (record-at r).keys) e.id m sealed n
+      → SealedAs P r e.cipher (sealing_key r (record_at r).keys) e.id m sealed n
   sealed-as r _ _ n (by_call w w-in a) =
-      rw (← sealing_key_lem r (record_of e.id w.table) (record-at r) (kept_at r _ w-in)) (seal-as P (end_connection e r) e.id w n a)
+      rw (← sealing_key_lem r (record_of e.id w.table) (record_at r) (kept_at r _ w-in)) (seal_as P (end_connection e r) e.id w n a)
 
   encrypting : (r : Role) (m sealed : Bytes) (n : ℕ) → Seals P e r m sealed n → encrypts (end_connection e r) ≡ true
-  encrypting r _ _ n (by_call w w-in a) = seal-on P (end_connection e r) e.id w n a
+  encrypting r _ _ n (by_call w w-in a) = seal_on P (end_connection e r) e.id w n a
 
-  opens-all : Opens P e
-  opens-all r m sealed n s w lent =
+  opens_all : Opens P e
+  opens_all r m sealed n s w lent =
       let k = kept_at (other r) _ lent.called in
       let d = end_connection e (other r) in
-      let key = sealing_key r (record-at r).keys in
+      let key = sealing_key r (record_at r).keys in
       opens P sound d r key e.id m w n (other-other r) h.id-fits (rw lent.copied (sealed-as r m sealed n s)) (encrypting r m sealed n s) refl
       (ap (λ (x : Held). x.used) k)
       (ap (λ (x : Held). x.guest || x.anonymous) k)
       (ap (λ (x : Held). cipher_key_bytes x.wide) k)
       (ap (λ (q : Role). sealing_key q (record_of e.id w.table).keys) (other-other r)
-      ∙ sealing_key_lem r (record_of e.id w.table) (record-at (other r)) k
+      ∙ sealing_key_lem r (record_of e.id w.table) (record_at (other r)) k
       ∙ same_keys r r)
 
 pub holds_of : (P : Primitives) → Sound P → Demand3 P
-holds_of P sound = record { chains = chains-agree P sound.hash-length; sessions = opens-all P sound }
+holds_of P sound = record { chains = chains_agree P sound.hash-length; sessions = opens_all P sound }
 
 pub demand3 : Demand3 suite
 demand3 = holds_of suite suite_sound

@@ -18,17 +18,17 @@ use Rattle.protocol.specs.Answer.{done}
 use Rattle.protocol.specs.Connection.{Role, client, server, other}
 use Rattle.protocol.specs.TransformHeader.{inner, nonce_of, authenticated}
 use Rattle.protocol.specs.Compound.{walk}
-use Rattle.protocol.specs.Preauth.{negotiateMessage}
+use Rattle.protocol.specs.Preauth.{negotiate_message}
 use Rattle.protocol.specs.SessionTable.{Session, free_record}
-use Rattle.protocol.specs.Transform.{Primitives, sealedUnder, plaintextUnder}
+use Rattle.protocol.specs.Transform.{Primitives, sealed_under, plaintext_under}
 use Rattle.protocol.specs.Calls.{Call, folding, adding, removing}
-use Rattle.protocol.specs.Calls.{Lent, only_message, only_table, message_and_table, sealTests, openTests, tests, effect, answer, left}
+use Rattle.protocol.specs.Calls.{Lent, only_message, only_table, message_and_table, seal_tests, open_tests, tests, effect, answer, left}
 use Rattle.protocol.specs.Suite.{suite}
 use Rattle.protocol.specs.PLines.{header}
 use Rattle.protocol.specs.BreakNotices.{notice}
 use Rattle.demands.specs.Chains.{ChainSteps, calling, EndInOrder, Among}
-use Rattle.demands.specs.Steps.{Step, on_table, tableLeft}
-use Rattle.demands.specs.Demand3.{Ends, end_seals, end_opens, sessionAdded, addedAt, Premises, Seals, by_call, LentToOpen}
+use Rattle.demands.specs.Steps.{Step, on_table, table_left}
+use Rattle.demands.specs.Demand3.{Ends, end_seals, end_opens, session_added, added_at, Premises, Seals, by_call, LentToOpen}
 use Rattle.demands.proofs.Demand3.{demand3}
 
 -- what each end sends: room for the header, then one inner header, of session 5 or a break notice
@@ -38,7 +38,7 @@ message_of server = replicate 52 0 ++ notice 0 0
 
 -- the client hands an empty message to its connection's chain, which is refused with 23 and changes nothing
 abbrev steps_on : Role → ChainSteps
-steps_on client = record { connection = calling (folding negotiateMessage []) ∷ []; session = [] }
+steps_on client = record { connection = calling (folding negotiate_message []) ∷ []; session = [] }
 steps_on server = record { connection = []; session = [] }
 
 abbrev ends_with : (Role → List Step) → Ends
@@ -79,28 +79,28 @@ open_removes_nothing e r i q = let z : ◌≡◌ {A = ℕ} 0 1 = cc in omega ari
 module _ (P : Primitives) where
   -- the table at an end right after the add: one record
   abbrev table_at : Role → List Session
-  table_at r = tableLeft P (addedAt P before r)
+  table_at r = table_left P (added_at P before r)
 
-  abbrev toSeal : Role → Lent
-  toSeal r = message_and_table (message_of r) (table_at r)
+  abbrev to_seal : Role → Lent
+  to_seal r = message_and_table (message_of r) (table_at r)
 
   -- what an end sends
   pub sealed : Role → Bytes
-  sealed r = (left P (end_seals before r) (toSeal r)).message
+  sealed r = (left P (end_seals before r) (to_seal r)).message
 
-  abbrev sealStep : Role → Step
-  sealStep r = record { call = end_seals before r; lent = only_message (message_of r) }
+  abbrev seal_step : Role → Step
+  seal_step r = record { call = end_seals before r; lent = only_message (message_of r) }
 
-  abbrev openStep : Role → Step
-  openStep r = record { call = end_opens before r; lent = only_message (sealed (other r)) }
+  abbrev open_step : Role → Step
+  open_step r = record { call = end_opens before r; lent = only_message (sealed (other r)) }
 
   abbrev ends : Ends
-  ends = ends_with (λ r. sealStep r ∷ openStep r ∷ [])
+  ends = ends_with (λ r. seal_step r ∷ open_step r ∷ [])
 
   kept : (r : Role) (s : Step) → Among s (ends.steps r) → s.call ≢ removing 5
-  kept r = no_removal (sealStep r) (openStep r) 5 (seal_removes_nothing before r 5) (open_removes_nothing before r 5)
+  kept r = no_removal (seal_step r) (open_step r) 5 (seal_removes_nothing before r 5) (open_removes_nothing before r 5)
 
-  success : (r : Role) → answer P (adding (sessionAdded P before r)) (only_table (free_record ∷ [])) ≡ done 0
+  success : (r : Role) → answer P (adding (session_added P before r)) (only_table (free_record ∷ [])) ≡ done 0
   unfolding tests
   success client = refl
   success server = refl
@@ -110,23 +110,23 @@ module _ (P : Primitives) where
   in_order server = (tt, tt)
 
   premises : Premises P ends
-  premises = record { in_order = in_order; same-messages = refl; same_key = refl; id-fits = lit< tt; added-with-success = success; kept = kept }
+  premises = record { in_order = in_order; same_messages = refl; same_key = refl; id-fits = lit< tt; added-with_success = success; kept = kept }
 
-  seal-done : (r : Role) → answer P (end_seals before r) (toSeal r) ≡ done 1
-  unfolding message_of tests effect sealTests walk little_endian to_little_endian same_bytes
-  seal-done client = refl
-  seal-done server = refl
+  seal_done : (r : Role) → answer P (end_seals before r) (to_seal r) ≡ done 1
+  unfolding message_of tests effect seal_tests walk little_endian to_little_endian same_bytes
+  seal_done client = refl
+  seal_done server = refl
 
   seals : (r : Role) → Seals P ends r (message_of r) (sealed r) 1
   unfolding sealed
-  seals r = by_call (toSeal r) (Memᴰ.head refl) (seal-done r)
+  seals r = by_call (to_seal r) (Memᴰ.head refl) (seal_done r)
 
   -- what an end is lent to open, after its own seal
   abbrev received : Role → Lent
-  received r = message_and_table (sealed (other r)) (tableLeft P (on_table (table_at r) (sealStep r)))
+  received r = message_and_table (sealed (other r)) (table_left P (on_table (table_at r) (seal_step r)))
 
-  lent-to-open : (r : Role) → LentToOpen P ends r (sealed (other r)) (received r)
-  lent-to-open r = record { called = Memᴰ.tail (Memᴰ.head refl); copied = refl }
+  lent-to_open : (r : Role) → LentToOpen P ends r (sealed (other r)) (received r)
+  lent-to_open r = record { called = Memᴰ.tail (Memᴰ.head refl); copied = refl }
 
 -- the end opens what the other sealed
 abbrev Opened : Primitives → Role → Type 0
@@ -138,14 +138,14 @@ Opened P r =
 pub request_goes_across : Opened suite server
 request_goes_across =
     demand3.sessions (ends suite) (premises suite) client (message_of client) (sealed suite client) 1 (seals suite client) (received suite server)
-    (lent-to-open suite server)
+    (lent-to_open suite server)
 
-pub break_notice-goes_across : Opened suite client
-break_notice-goes_across =
+pub break_notice_goes_across : Opened suite client
+break_notice_goes_across =
     demand3.sessions (ends suite) (premises suite) server (message_of server) (sealed suite server) 1 (seals suite server) (received suite client)
-    (lent-to-open suite client)
+    (lent-to_open suite client)
 
--- ---- computed
+-- ____ computed
 
 abbrev idle : Primitives
 idle =
@@ -157,11 +157,11 @@ idle =
     }
 
 opens_idle : (r : Role) → answer idle (end_opens before r) (received idle r) ≡ done 1
-unfolding sealed message_of tests effect sealTests openTests walk sealedUnder plaintextUnder authenticated nonce_of little_endian to_little_endian same_bytes
+unfolding sealed message_of tests effect seal_tests open_tests walk sealed_under plaintext_under authenticated nonce_of little_endian to_little_endian same_bytes
 opens_idle client = refl
 opens_idle server = refl
 
 reads_idle : (r : Role) → inner (left idle (end_opens before r) (received idle r)).message ≡ inner (message_of (other r))
-unfolding sealed message_of tests effect sealTests openTests walk sealedUnder plaintextUnder authenticated nonce_of little_endian to_little_endian same_bytes
+unfolding sealed message_of tests effect seal_tests open_tests walk sealed_under plaintext_under authenticated nonce_of little_endian to_little_endian same_bytes
 reads_idle client = refl
 reads_idle server = refl

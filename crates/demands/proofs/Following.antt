@@ -13,18 +13,18 @@ use lib.Dec.{eqb, leb}
 use Rattle.protocol.specs.Bytes.{Bytes}
 use Rattle.protocol.specs.Answer.{Answer, done, refused, when_done}
 use Rattle.protocol.specs.Connection.{Connection, last_counter}
-use Rattle.protocol.specs.SessionTable.{Session, free_record, with_counter, is_session, record_of, change_record, has_free, fill_free, Adding, newRecord, count_up}
+use Rattle.protocol.specs.SessionTable.{Session, free_record, with_counter, is_session, record_of, change_record, has_free, fill_free, Adding, new_record, count_up}
 use Rattle.protocol.specs.SessionTable.{counter_step}
 use Rattle.protocol.specs.Transform.{Primitives}
 use Rattle.protocol.specs.Calls.{Call, derivation, folding, fold_beginning, fold_piece, fold_finishing, sealing_under, opening_under, signing_under}
 use Rattle.protocol.specs.Calls.{verifying_under, adding, removing, stepping}
-use Rattle.protocol.specs.Calls.{sealing, opening, Lent, with_table, sealTests, tests, effect, answer, left}
+use Rattle.protocol.specs.Calls.{sealing, opening, Lent, with_table, seal_tests, tests, effect, answer, left}
 use Rattle.protocol.specs.Calls.{sign_beginning, sign_piece, sign_finishing, verify_finishing}
 use Rattle.demands.specs.Chains.{Among}
-use Rattle.demands.specs.Steps.{Step, on_table, tableLeft, made}
+use Rattle.demands.specs.Steps.{Step, on_table, table_left, made}
 use Rattle.demands.proofs.Answering.{line-of, later-line-of}
 use Rattle.demands.proofs.CallLaws.{left-done, left_alone}
-use Rattle.demands.proofs.TableLaws.{not_this, is_used, is_id, change-other, fill-other, change_same, fill_same}
+use Rattle.demands.proofs.TableLaws.{not_this, is_used, is_id, change_other, fill_other, change_same, fill_same}
 
 -- what sealing and opening take from a record, besides its counter; any later field may change
 pub record Held : Type 0 where
@@ -92,39 +92,39 @@ change_follows i f same j t h k = go (ℕ_discrete j i)
     itself : j ≡ i → record_of i (change_record f i t) ≡ f (record_of i t)
     itself p = change_same i f (λ x e. ap (is_held i) (same x) ∙ e) t (is_used i (record_of i t) k)
 
-    not-mine : j ≢ i → (x : Session) → is_session j x ≡ true → is_session i (f x) ≡ false
-    not-mine d x e = ap (is_held i) (same x) ∙ not_this i x (λ q. d (sym (is_id j x e) ∙ q))
+    not_mine : j ≢ i → (x : Session) → is_session j x ≡ true → is_session i (f x) ≡ false
+    not_mine d x e = ap (is_held i) (same x) ∙ not_this i x (λ q. d (sym (is_id j x e) ∙ q))
 
     go : Dec (j ≡ i) → Follows (record_of i t) (record_of i (change_record f j t))
     go (yes p) = rw (p, itself p) (rw p at h)
-    go (no d) = follows_self (change-other i j (λ q. d (sym q)) f (not-mine d) t)
+    go (no d) = follows_self (change_other i j (λ q. d (sym q)) f (not_mine d) t)
 
 module _ (P : Primitives) where
-  -- ---- adding with success
+  -- ____ adding with success
 
   record Added (a : Adding) (t : List Session) : Type 0 where
-    new-id : (record_of a.id t).used ≡ false
+    new_id : (record_of a.id t).used ≡ false
     room : has_free t ≡ true
 
-  add-says : (a : Adding) (w : Lent) (n : ℕ) → answer P (adding a) w ≡ done n → Added a w.table
+  add_says : (a : Adding) (w : Lent) (n : ℕ) → answer P (adding a) w ≡ done n → Added a w.table
   unfolding tests
-  add-says a w n e =
+  add_says a w n e =
       let at = line-of (tests P (adding a) w) n e in
-      record { new-id = at 21; room = not-false (has_free w.table) (at 22) }
+      record { new_id = at 21; room = not-false (has_free w.table) (at 22) }
 
   -- right after it lookup takes the record made
-  pub added-record : (a : Adding) (w : Lent) (n : ℕ) → answer P (adding a) w ≡ done n
-      → record_of a.id (left P (adding a) w).table ≡ newRecord P.kdf a
+  pub added_record : (a : Adding) (w : Lent) (n : ℕ) → answer P (adding a) w ≡ done n
+      → record_of a.id (left P (adding a) w).table ≡ new_record P.kdf a
   unfolding effect
-  added-record a w n e =
-      let s = add-says a w n e in
+  added_record a w n e =
+      let s = add_says a w n e in
       ap (λ (x : Lent). record_of a.id x.table) (left-done P (adding a) w n e)
-      ∙ fill_same a.id (newRecord P.kdf a) (eq-eqb a.id a.id refl) w.table s.new-id s.room
+      ∙ fill_same a.id (new_record P.kdf a) (eq-eqb a.id a.id refl) w.table s.new-id s.room
 
-  pub added-present : (a : Adding) (w : Lent) (n : ℕ) → answer P (adding a) w ≡ done n → Present a.id (left P (adding a) w).table
-  added-present a w n e = ap (is_session a.id) (added-record a w n e) ∙ eq-eqb a.id a.id refl
+  pub added_present : (a : Adding) (w : Lent) (n : ℕ) → answer P (adding a) w ≡ done n → Present a.id (left P (adding a) w).table
+  added_present a w n e = ap (is_session a.id) (added_record a w n e) ∙ eq-eqb a.id a.id refl
 
-  -- ---- every call but the removal of the session
+  -- ____ every call but the removal of the session
 
   module _ (i : ℕ) where
     -- what a call leaves of the session's record
@@ -136,28 +136,28 @@ module _ (P : Primitives) where
     alone c w e = follows_self (ap (record_of i) (left_alone P c w (λ (x : Lent). x.table) e))
 
     -- one that does, where it is done
-    if-done : (c : Call) (w : Lent) → ((n : ℕ) → answer P c w ≡ done n → Follows (record_of i w.table) (record_of i (effect P c w).table)) → Kept c w
-    if-done c w f = go (answer P c w) refl
+    if_done : (c : Call) (w : Lent) → ((n : ℕ) → answer P c w ≡ done n → Follows (record_of i w.table) (record_of i (effect P c w).table)) → Kept c w
+    if_done c w f = go (answer P c w) refl
       where
         go : (a : Answer) → answer P c w ≡ a → Follows (record_of i w.table) (record_of i (when_done a (λ n. effect P c w) w).table)
         go (done n) e = f n e
         go (refused n) e = follows_self refl
 
-    adding-follows : (a : Adding) (w : Lent) → Present i w.table → (n : ℕ) → answer P (adding a) w ≡ done n
-        → Follows (record_of i w.table) (record_of i (fill_free (newRecord P.kdf a) w.table))
-    adding-follows a w k n e = go (ℕ_discrete a.id i)
+    adding_follows : (a : Adding) (w : Lent) → Present i w.table → (n : ℕ) → answer P (adding a) w ≡ done n
+        → Follows (record_of i w.table) (record_of i (fill_free (new_record P.kdf a) w.table))
+    adding_follows a w k n e = go (ℕ_discrete a.id i)
       where
-        go : Dec (a.id ≡ i) → Follows (record_of i w.table) (record_of i (fill_free (newRecord P.kdf a) w.table))
+        go : Dec (a.id ≡ i) → Follows (record_of i w.table) (record_of i (fill_free (new_record P.kdf a) w.table))
         go (yes p) =
             let u : (record_of a.id w.table).used ≡ true = rw p (is_used i (record_of i w.table) k) in
-            absurd (true≢false (sym u ∙ (add-says a w n e).new-id))
-        go (no d) = follows_self (fill-other i a.id (λ q. d (sym q)) (newRecord P.kdf a) refl w.table)
+            absurd (true≢false (sym u ∙ (add_says a w n e).new-id))
+        go (no d) = follows_self (fill_other i a.id (λ q. d (sym q)) (new_record P.kdf a) refl w.table)
 
     -- a seal with success did not find the last counter value
-    sealing-follows : (c : Connection) (j : ℕ) (w : Lent) → Present i w.table → (n : ℕ) → answer P (sealing c j) w ≡ done n
+    sealing_follows : (c : Connection) (j : ℕ) (w : Lent) → Present i w.table → (n : ℕ) → answer P (sealing c j) w ≡ done n
         → Follows (record_of i w.table) (record_of i (change_record count_up j w.table))
-    unfolding tests sealTests
-    sealing-follows c j w k n e =
+    unfolding tests seal_tests
+    sealing_follows c j w k n e =
         let s = record_of j w.table in
         let d = eqb-false s.counter last_counter (later-line-of (tests P (sealing c j) w) n e 17) in
         change_follows i count_up (λ x. refl) j w.table (record { same = refl; up = omega arith; fits = λ h. omega arith }) k
@@ -178,23 +178,23 @@ module _ (P : Primitives) where
     follows (sign_piece p) w h k = alone _ w refl
     follows (sign_finishing u) w h k = alone _ w refl
     follows (verify_finishing u) w h k = alone _ w refl
-    follows (adding a) w h k = if-done (adding a) w (adding-follows a w k)
+    follows (adding a) w h k = if_done (adding a) w (adding_follows a w k)
     follows (removing j) w h k =
-        if-done (removing j) w (λ n e. follows_self (change-other i j (λ q. h (ap removing (sym q))) (λ x. free_record) (λ x u. refl) w.table))
+        if_done (removing j) w (λ n e. follows_self (change_other i j (λ q. h (ap removing (sym q))) (λ x. free_record) (λ x u. refl) w.table))
     follows (stepping j by) w h k =
         let f = stepped_follows by in
-        if-done (stepping j by) w (λ n e. change_follows i (counter_step by) (λ x. (f x).same) j w.table (f (record_of j w.table)) k)
-    follows (sealing c j) w h k = if-done (sealing c j) w (sealing-follows c j w k)
+        if_done (stepping j by) w (λ n e. change_follows i (counter_step by) (λ x. (f x).same) j w.table (f (record_of j w.table)) k)
+    follows (sealing c j) w h k = if_done (sealing c j) w (sealing_follows c j w k)
     follows (opening c) w h k = alone _ w refl
 
     -- every step of a list that does not remove the session gets a table with its record
-    pub follows-all : (ss : List Step) (t : List Session) → ((s : Step) → Among s ss → s.call ≢ removing i) → Present i t
+    pub follows_all : (ss : List Step) (t : List Session) → ((s : Step) → Among s ss → s.call ≢ removing i) → Present i t
         → (x : Step) → Among x (made P t ss) → Follows (record_of i t) (record_of i x.lent.table)
-    follows-all [] t h k x x-in = elim x-in [ ]
-    follows-all (s ∷ ss) t h k x x-in = go (follows-all ss next (λ r r-in. h r (Memᴰ.tail r-in))) (Memᴰ.cases_cons x-in)
+    follows_all [] t h k x x-in = elim x-in [ ]
+    follows_all (s ∷ ss) t h k x x-in = go (follows_all ss next (λ r r-in. h r (Memᴰ.tail r-in))) (Memᴰ.cases_cons x-in)
       where
         next : List Session
-        next = tableLeft P (on_table t s)
+        next = table_left P (on_table t s)
 
         f : Follows (record_of i t) (record_of i next)
         f = follows s.call (with_table t s.lent) (h s (Memᴰ.head refl)) k

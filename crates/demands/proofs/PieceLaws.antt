@@ -16,9 +16,9 @@ use Rattle.protocol.specs.Transform.{Primitives}
 use Rattle.protocol.specs.Calls.{folding, fold_beginning, fold_piece, fold_finishing, Lent, only_chain, only_underway, chain_and_underway, tests, effect, answer, left}
 use Rattle.protocol.specs.Suite.{suite}
 use Rattle.demands.specs.Chains.{goes_in}
-use Rattle.demands.specs.Pieces.{joined_bytes, begun_on, handed_on, after_pieces, notRefused, messageJoined, InPieces}
+use Rattle.demands.specs.Pieces.{joined_bytes, begun_on, handed_on, after_pieces, not_refused, message_joined, InPieces}
 use Rattle.demands.proofs.CallLaws.{left_alone}
-use Rattle.demands.proofs.FoldLaws.{fold-left, finish-any}
+use Rattle.demands.proofs.FoldLaws.{fold_left, finish_any}
 
 joined-append : (ps qs : List Bytes) → joined_bytes (ps ++ qs) ≡ joined_bytes ps ++ joined_bytes qs
 joined-append [] qs = refl
@@ -31,7 +31,7 @@ module _ (P : Primitives) where
       let w = only_underway not_begun in
       ap (λ (fits : Bool). (when_done (cond (not fits) (refused 40) (done 0)) (λ n. effect P (fold_beginning v) w) w).underway) (eq-eqb (length v) 64 l)
 
-  -- ---- one piece
+  -- ____ one piece
 
   record Hands (u : Underway) (p : Bytes) : Type 0 where
     same_begun : (handed_on P u p).begun ≡ u.begun
@@ -60,22 +60,22 @@ module _ (P : Primitives) where
       more (done n) = ap (λ (r : Bytes). u.joined ++ r) (sym (append-nil p))
       more (refused n) = sym (append-nil u.joined)
 
-  -- ---- all pieces
+  -- ____ all pieces
 
-  all-begun : (ps : List Bytes) (u : Underway) → (after_pieces P u ps).begun ≡ u.begun
-  all-begun [] u = refl
-  all-begun (p ∷ ps) u = all-begun ps (handed_on P u p) ∙ (hands u p).same-begun
+  all_begun : (ps : List Bytes) (u : Underway) → (after_pieces P u ps).begun ≡ u.begun
+  all_begun [] u = refl
+  all_begun (p ∷ ps) u = all_begun ps (handed_on P u p) ∙ (hands u p).same-begun
 
   all_start : (ps : List Bytes) (u : Underway) → (after_pieces P u ps).start ≡ u.start
   all_start [] u = refl
   all_start (p ∷ ps) u = all_start ps (handed_on P u p) ∙ (hands u p).same_start
 
-  all-joined : (ps : List Bytes) (u : Underway) → (after_pieces P u ps).joined ≡ u.joined ++ joined_bytes (notRefused P u ps)
-  all-joined [] u = sym (append-nil u.joined)
-  all-joined (p ∷ ps) u =
+  all_joined : (ps : List Bytes) (u : Underway) → (after_pieces P u ps).joined ≡ u.joined ++ joined_bytes (not_refused P u ps)
+  all_joined [] u = sym (append-nil u.joined)
+  all_joined (p ∷ ps) u =
       let this = when_done (answer P (fold_piece p) (only_underway u)) (λ n. p ∷ []) [] in
-      let rest = notRefused P (handed_on P u p) ps in
-      all-joined ps (handed_on P u p)
+      let rest = not_refused P (handed_on P u p) ps in
+      all_joined ps (handed_on P u p)
       ∙ ap (λ (j : Bytes). j ++ joined_bytes rest) (hands u p).more
       ∙ append_assoc u.joined (joined_bytes this) (joined_bytes rest)
       ∙ ap (λ (r : Bytes). u.joined ++ r) (sym (joined-append this rest))
@@ -85,33 +85,33 @@ module _ (P : Primitives) where
     last = after_pieces P (begun_on P v) ps
 
     is-begun : last.begun ≡ true
-    is-begun = all-begun ps (begun_on P v) ∙ ap (λ (u : Underway). u.begun) (begun-is v l)
+    is-begun = all_begun ps (begun_on P v) ∙ ap (λ (u : Underway). u.begun) (begun-is v l)
 
-    message-is : message_of last ≡ messageJoined P v ps
+    message-is : message_of last ≡ message_joined P v ps
     message-is =
         ap (λ (b : Bool). cond b last.joined []) is-begun
-        ∙ all-joined ps (begun_on P v)
-        ∙ ap (λ (u : Underway). u.joined ++ joined_bytes (notRefused P (begun_on P v) ps)) (begun-is v l)
+        ∙ all_joined ps (begun_on P v)
+        ∙ ap (λ (u : Underway). u.joined ++ joined_bytes (not_refused P (begun_on P v) ps)) (begun-is v l)
 
     start_is : last.start ≡ v
     start_is = all_start ps (begun_on P v) ∙ ap (λ (u : Underway). u.start) (begun-is v l)
 
-    answer-is : (kind : FoldKind) → answer P (fold_finishing kind) (chain_and_underway v last) ≡ answer P (folding kind (messageJoined P v ps)) (only_chain v)
+    answer-is : (kind : FoldKind) → answer P (fold_finishing kind) (chain_and_underway v last) ≡ answer P (folding kind (message_joined P v ps)) (only_chain v)
     unfolding tests
     answer-is kind = ap (λ (m : Bytes). answer P (folding kind m) (only_chain v)) message-is
 
     finished_is : (kind : FoldKind) (x : Bytes) → length x ≡ 64
         → (left P (fold_finishing kind) (chain_and_underway x last)).chain
-        ≡ cond (goes_in kind (messageJoined P v ps)) (P.sha512 (v ++ messageJoined P v ps)) x
-    finished_is kind x k = finish-any P x kind last k ∙ (λ i. cond (goes_in kind (message-is i)) (P.sha512 (start_is i ++ message-is i)) x)
+        ≡ cond (goes_in kind (message_joined P v ps)) (P.sha512 (v ++ message_joined P v ps)) x
+    finished_is kind x k = finish_any P x kind last k ∙ (λ i. cond (goes_in kind (message-is i)) (P.sha512 (start_is i ++ message-is i)) x)
 
-  -- ---- no piece is refused
+  -- ____ no piece is refused
 
   taken : (u : Underway) (p : Bytes) → piece_fits u p ≡ true → answer P (fold_piece p) (only_underway u) ≡ done 0
   unfolding tests
   taken u p e = rw e
 
-  none-refused : (ps : List Bytes) (u : Underway) → u.begun ≡ true → length u.joined + length (joined_bytes ps) ≤ longest_message → notRefused P u ps ≡ ps
+  none-refused : (ps : List Bytes) (u : Underway) → u.begun ≡ true → length u.joined + length (joined_bytes ps) ≤ longest_message → not_refused P u ps ≡ ps
   unfolding effect with_piece
   none-refused [] u b h = refl
   none-refused (p ∷ ps) u b h =
@@ -127,14 +127,14 @@ module _ (P : Primitives) where
   holds_of =
       record {
         same_answer = λ kind v ps l. answer-is v l ps kind;
-        same-value = λ kind v ps l. finished_is v l ps kind v l ∙ sym (fold-left P v kind (messageJoined P v ps) l);
+        same-value = λ kind v ps l. finished_is v l ps kind v l ∙ sym (fold_left P v kind (message_joined P v ps) l);
         from_start = λ kind v x ps l k g.
             finished_is v l ps kind x k
-            ∙ ap (λ (b : Bool). cond b (P.sha512 (v ++ messageJoined P v ps)) x) g
-            ∙ sym (fold-left P v kind (messageJoined P v ps) l ∙ ap (λ (b : Bool). cond b (P.sha512 (v ++ messageJoined P v ps)) v) g);
-        all-taken = λ v ps l h. rw (begun-is v l) (none-refused ps (begun_from v) refl (omega (arith, h)));
-        begin-leaves = λ v w. left_alone P (fold_beginning v) w (λ (x : Lent). x.chain) refl;
-        piece-leaves = λ p w. left_alone P (fold_piece p) w (λ (x : Lent). x.chain) refl;
+            ∙ ap (λ (b : Bool). cond b (P.sha512 (v ++ message_joined P v ps)) x) g
+            ∙ sym (fold_left P v kind (message_joined P v ps) l ∙ ap (λ (b : Bool). cond b (P.sha512 (v ++ message_joined P v ps)) v) g);
+        all_taken = λ v ps l h. rw (begun-is v l) (none-refused ps (begun_from v) refl (omega (arith, h)));
+        begin_leaves = λ v w. left_alone P (fold_beginning v) w (λ (x : Lent). x.chain) refl;
+        piece_leaves = λ p w. left_alone P (fold_piece p) w (λ (x : Lent). x.chain) refl;
       }
 
 pub in_pieces : InPieces suite

@@ -10,14 +10,14 @@ use native.Mathlib.Omega.{arith}
 use lib.Dec.{eqb}
 use lib.ListN.{length, replicate}
 use Rattle.protocol.specs.Bytes.{Bytes}
-use Rattle.protocol.specs.Preauth.{fresh_chain, negotiateMessage}
+use Rattle.protocol.specs.Preauth.{fresh_chain, negotiate_message}
 use Rattle.protocol.specs.Pieces.{with_piece}
 use Rattle.protocol.specs.Transform.{Primitives}
 use Rattle.protocol.specs.Calls.{Call, folding, tests, effect}
-use Rattle.demands.specs.Chains.{ChainStep, ChainSteps, starting, chainLeft, chainAfter, calling, beginning_at, piece_at, finishing_at, abandoning_at}
-use Rattle.demands.specs.Chains.{InOrder, endMessages, EndInOrder}
+use Rattle.demands.specs.Chains.{ChainStep, ChainSteps, starting, chain_left, chain_after, calling, beginning_at, piece_at, finishing_at, abandoning_at}
+use Rattle.demands.specs.Chains.{InOrder, end_messages, EndInOrder}
 
--- ---- calls alone
+-- ____ calls alone
 
 abbrev calls_alone : List Call → List ChainStep
 calls_alone [] = []
@@ -27,29 +27,29 @@ pub calls_in_order : (P : Primitives) (cs : List Call) (v : Bytes) → InOrder P
 calls_in_order P [] v = tt
 calls_in_order P (c ∷ cs) v = (λ m e k. refl, calls_in_order P cs _)
 
--- ---- a message in pieces
+-- ____ a message in pieces
 
 abbrev before_finish : List ChainStep
 before_finish = beginning_at 0 ∷ piece_at 0 (replicate 30 7) ∷ beginning_at 1 ∷ piece_at 0 (replicate 34 7) ∷ abandoning_at 1 ∷ []
 
 abbrev in_pieces : ChainSteps
-in_pieces = record { connection = before_finish ++ (finishing_at 0 negotiateMessage ∷ []); session = [] }
+in_pieces = record { connection = before_finish ++ (finishing_at 0 negotiate_message ∷ []); session = [] }
 
 abbrev at_once : ChainSteps
-at_once = record { connection = calling (folding negotiateMessage (replicate 64 7)) ∷ []; session = [] }
+at_once = record { connection = calling (folding negotiate_message (replicate 64 7)) ∷ []; session = [] }
 
 -- a step that folds nothing in
 nothing_in : {A : Type 0} (m : Bytes) → ◌≡◌ {A = List Bytes} [] (m ∷ []) → A
 nothing_in m e = let z : ◌≡◌ {A = ℕ} 0 1 = ap length e in absurd (omega arith)
 
 module _ (P : Primitives) where
-  same_message : endMessages P in_pieces ≡ endMessages P at_once
+  same_message : end_messages P in_pieces ≡ end_messages P at_once
   unfolding tests effect with_piece
   same_message = refl
 
   -- neither place has a message after the finish
   none_left : (k : ℕ) (a : Bool) → eqb k 0 ≡ a → (b : Bool) → eqb k 1 ≡ b
-      → ((chainLeft P (chainAfter P (starting fresh_chain) before_finish) (finishing_at 0 negotiateMessage)).states k).begun ≡ false
+      → ((chain_left P (chain_after P (starting fresh_chain) before_finish) (finishing_at 0 negotiate_message)).states k).begun ≡ false
   none_left k true e b f = rw e
   none_left k false e true f = rw (e, f)
   none_left k false e false f = rw (e, f)
@@ -69,5 +69,5 @@ module _ (P : Primitives) where
     tt,
   )
 
-  at-once-in-order : EndInOrder P at_once
-  at-once-in-order = ((λ m e k. refl, tt), tt)
+  at_once_in-order : EndInOrder P at_once
+  at_once_in-order = ((λ m e k. refl, tt), tt)

@@ -11,7 +11,7 @@ use lib.ListN.{length, length-append, replicate}
 use Rattle.protocol.specs.Bytes.{Bytes}
 use Rattle.protocol.specs.Answer.{Answer, done, refused, when_done, judge}
 use Rattle.protocol.specs.Connection.{longest_message}
-use Rattle.protocol.specs.Signing.{with_signed_flag, with_signature, signatureUnder, signedUnder, signature_field}
+use Rattle.protocol.specs.Signing.{with_signed_flag, with_signature, signature_under, signed_under, signature_field}
 use Rattle.protocol.specs.Pieces.{Underway, not_begun, piece_fits, with_piece}
 use Rattle.protocol.specs.SigningPieces.{signature_of}
 use Rattle.protocol.specs.Calls.{signing_under, verifying_under, sign_beginning, sign_piece, sign_finishing, verify_finishing}
@@ -24,7 +24,7 @@ use Rattle.demands.proofs.Answering.{line-of}
 use Rattle.demands.proofs.CallLaws.{left-done}
 use Rattle.demands.proofs.Signing.{signs, stored-signature}
 
--- ---- one piece
+-- ____ one piece
 
 abbrev under : Bytes → Bytes → Underway
 under key m = record { begun = true; start = key; joined = m }
@@ -53,7 +53,7 @@ module _ (u : Underway) (p : Bytes) where
       go true = refl
       go false = refl
 
--- ---- every list of pieces
+-- ____ every list of pieces
 
 record Joins (key m : Bytes) (ps : List Bytes) : Type 0 where
   state : after_pieces (under key m) ps ≡ under key (m ++ joined_not_refused (under key m) ps)
@@ -88,7 +88,7 @@ joins key (p ∷ ps) m h = go (joins key ps) (piece_fits (under key m) p) refl
     go rest false e =
         on [] (left_is u p false e ∙ ap (under key) (sym (append-nil m))) (taken_is u p false e) (rest (m ++ []) (rw (append-nil m) h))
 
--- ---- the finish
+-- ____ the finish
 
 module _ (key m : Bytes) (size : length key ≡ 16) (short : length m ≤ longest_message) where
   abbrev u : Underway
@@ -107,17 +107,17 @@ module _ (key m : Bytes) (size : length key ≡ 16) (short : length m ≤ longes
 
   verifies-same : (w : Lent) → answer suite (verify_finishing u) w ≡ answer suite (verifying_under key) (only_message m)
   unfolding tests
-  verifies-same w = sym (past (judge (verify_finish_tests u (signatureUnder cmac key m)) (done 0)))
+  verifies-same w = sym (past (judge (verify_finish_tests u (signature_under cmac key m)) (done 0)))
 
   signature-same : (place : Bytes) (n : ℕ) → length place ≡ 16 → answer suite (sign_finishing u) (only_signature place) ≡ done n
       → (left suite (sign_finishing u) (only_signature place)).signature ≡ signature_field (left suite (signing_under key) (only_message m)).message
-  unfolding effect signature_of signedUnder signatureUnder
+  unfolding effect signature_of signed_under signature_under
   signature-same place n l e =
       let e' : answer suite (signing_under key) (only_message m) ≡ done n = sym (signs-same place l) ∙ e in
       let long = (signs key (only_message m) n e').0.long in
       let f = with_signed_flag m in
       let lf = flagged_length m long in
-      let s = signatureUnder cmac key f in
+      let s = signature_under cmac key f in
       ap (λ (w : Lent). w.signature) (left-done suite (sign_finishing u) (only_signature place) n e)
       ∙ sym (stored-signature s f (suite_sound.signature-length key (with_signature (replicate 16 0) f)) (omega (arith, lf, long)))
       ∙ sym (ap (λ (w : Lent). signature_field w.message) (left-done suite (signing_under key) (only_message m) n e'))
@@ -138,7 +138,7 @@ module _ (key : Bytes) (ps : List Bytes) where
       from (begun key) (ap (λ (w : Lent). w.underway) (left-done suite (sign_beginning key) (only_underway not_begun) n e))
       (eqb-true (length key) 16 (not-false (eqb (length key) 16) (line-of (tests suite (sign_beginning key) (only_underway not_begun)) n e 40)))
 
--- ---- with no message
+-- ____ with no message
 
 stays : (ps : List Bytes) → after_pieces not_begun ps ≡ not_begun
 stays [] = refl

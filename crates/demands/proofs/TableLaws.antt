@@ -33,10 +33,10 @@ is_id i s e = eqb-true s.id i (sym (rw (is_used i s e) refl) ∙ e)
 
 module _ (i j : ℕ) (other-id : i ≢ j) where
   -- a change of the record of another id
-  pub change-other : (f : Session → Session) → ((s : Session) → is_session j s ≡ true → is_session i (f s) ≡ false)
+  pub change_other : (f : Session → Session) → ((s : Session) → is_session j s ≡ true → is_session i (f s) ≡ false)
       → (t : List Session) → record_of i (change_record f j t) ≡ record_of i t
-  change-other f keeps [] = refl
-  change-other f keeps (s ∷ t) = go (is_session j s) refl (change-other f keeps t)
+  change_other f keeps [] = refl
+  change_other f keeps (s ∷ t) = go (is_session j s) refl (change_other f keeps t)
     where
       go : (b : Bool) → is_session j s ≡ b → record_of i (change_record f j t) ≡ record_of i t
           → record_of i (change_record f j (s ∷ t)) ≡ record_of i (s ∷ t)
@@ -46,9 +46,9 @@ module _ (i j : ℕ) (other-id : i ≢ j) where
       go false e below = rw (e, below)
 
   -- a new record of another id, in the first free place
-  pub fill-other : (new : Session) → new.id ≡ j → (t : List Session) → record_of i (fill_free new t) ≡ record_of i t
-  fill-other new q [] = refl
-  fill-other new q (s ∷ t) = go s.used refl (fill-other new q t)
+  pub fill_other : (new : Session) → new.id ≡ j → (t : List Session) → record_of i (fill_free new t) ≡ record_of i t
+  fill_other new q [] = refl
+  fill_other new q (s ∷ t) = go s.used refl (fill_other new q t)
     where
       go : (b : Bool) → s.used ≡ b → record_of i (fill_free new t) ≡ record_of i t → record_of i (fill_free new (s ∷ t)) ≡ record_of i (s ∷ t)
       go true u below = rw (u, below)

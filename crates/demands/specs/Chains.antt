@@ -11,7 +11,7 @@ use Rattle.protocol.specs.Calls.{Call, derivation, folding, fold_beginning, fold
 use Rattle.protocol.specs.Calls.{verifying_under, adding, removing, stepping, sealing, opening, only_chain, chain_and_underway, left}
 use Rattle.protocol.specs.Calls.{sign_beginning, sign_piece, sign_finishing, verify_finishing}
 
--- ---- a chain, and the messages under way into it
+-- ____ a chain, and the messages under way into it
 
 -- a program keeps each hash state at a place of its own
 pub record Chain : Type 0 where
@@ -41,7 +41,7 @@ pub data ChainStep : Type 0 where
   finishing_at : ℕ → FoldKind → ChainStep
   abandoning_at : ℕ → ChainStep
 
--- ---- what a step folds in
+-- ____ what a step folds in
 
 -- "the messages of a length that 23 admits, without the setup responses whose Status is not 0xC0000016"
 abbrev pub goes_in : FoldKind → Bytes → Bool
@@ -85,7 +85,7 @@ abbrev pub hashed_with : Bytes → List Bytes → List Bytes
 hashed_with v [] = []
 hashed_with v (m ∷ ms) = (v ++ m) ∷ hashed_with v ms
 
--- ---- a list of steps
+-- ____ a list of steps
 
 module _ (P : Primitives) where
   -- a call with the chain and the state at the place k, which the one handed back takes
@@ -94,39 +94,39 @@ module _ (P : Primitives) where
       let w = left P c (chain_and_underway s.value (s.states k)) in
       record { value = w.chain; states = put k w.underway s.states }
 
-  abbrev pub chainLeft : Chain → ChainStep → Chain
-  chainLeft s (calling c) = record { value = (left P c (only_chain s.value)).chain; states = s.states }
-  chainLeft s (beginning_at k) = handed k (fold_beginning s.value) s
-  chainLeft s (piece_at k p) = handed k (fold_piece p) s
+  abbrev pub chain_left : Chain → ChainStep → Chain
+  chain_left s (calling c) = record { value = (left P c (only_chain s.value)).chain; states = s.states }
+  chain_left s (beginning_at k) = handed k (fold_beginning s.value) s
+  chain_left s (piece_at k p) = handed k (fold_piece p) s
   -- "any refused finish ends the message", and so does one that is done
-  chainLeft s (finishing_at k kind) = ended_at k (handed k (fold_finishing kind) s)
+  chain_left s (finishing_at k kind) = ended_at k (handed k (fold_finishing kind) s)
   -- "An abandoned message leaves the chain value"
-  chainLeft s (abandoning_at k) = ended_at k s
+  chain_left s (abandoning_at k) = ended_at k s
 
   -- "Each fold gets the value that the one before left, also where that was 23 or not folded; nobody else writes it meanwhile."
-  abbrev pub chainAfter : Chain → List ChainStep → Chain
-  chainAfter s [] = s
-  chainAfter s (x ∷ xs) = chainAfter (chainLeft s x) xs
+  abbrev pub chain_after : Chain → List ChainStep → Chain
+  chain_after s [] = s
+  chain_after s (x ∷ xs) = chain_after (chain_left s x) xs
 
   -- "Folded in are, in list order"
-  abbrev pub messagesFoldedIn : Chain → List ChainStep → List Bytes
-  messagesFoldedIn s [] = []
-  messagesFoldedIn s (x ∷ xs) = folded_in_at s x ++ messagesFoldedIn (chainLeft s x) xs
+  abbrev pub messages_folded_in : Chain → List ChainStep → List Bytes
+  messages_folded_in s [] = []
+  messages_folded_in s (x ∷ xs) = folded_in_at s x ++ messages_folded_in (chain_left s x) xs
 
-  abbrev pub stringsHashed : Chain → List ChainStep → List Bytes
-  stringsHashed s [] = []
-  stringsHashed s (x ∷ xs) = hashed_with s.value (folded_in_at s x) ++ stringsHashed (chainLeft s x) xs
+  abbrev pub strings_hashed : Chain → List ChainStep → List Bytes
+  strings_hashed s [] = []
+  strings_hashed s (x ∷ xs) = hashed_with s.value (folded_in_at s x) ++ strings_hashed (chain_left s x) xs
 
   -- "a message is finished, into the chain it began from, or abandoned for good before another goes into the same chain": where a step folds a
   -- message in, none is under way afterwards
   abbrev pub Alone : Chain → ChainStep → Type 0
-  Alone s x = (m : Bytes) → folded_in_at s x ≡ m ∷ [] → (k : ℕ) → ((chainLeft s x).states k).begun ≡ false
+  Alone s x = (m : Bytes) → folded_in_at s x ≡ m ∷ [] → (k : ℕ) → ((chain_left s x).states k).begun ≡ false
 
   abbrev pub InOrder : Chain → List ChainStep → Type 0
   InOrder s [] = Unit
-  InOrder s (x ∷ xs) = Alone s x × InOrder (chainLeft s x) xs
+  InOrder s (x ∷ xs) = Alone s x × InOrder (chain_left s x) xs
 
--- ---- one end: "A session's list is the connection's up to the copy, then its own."
+-- ____ one end: "A session's list is the connection's up to the copy, then its own."
 
 pub record ChainSteps : Type 0 where
   -- those on the connection's chain, up to the copy
@@ -135,23 +135,23 @@ pub record ChainSteps : Type 0 where
   pub session : List ChainStep
 
 module _ (P : Primitives) (x : ChainSteps) where
-  abbrev pub connectionChain : Bytes
-  connectionChain = (chainAfter P (starting fresh_chain) x.connection).value
+  abbrev pub connection_chain : Bytes
+  connection_chain = (chain_after P (starting fresh_chain) x.connection).value
 
   -- no message that is under way into the connection's chain goes into the copy
-  abbrev pub sessionChain : Bytes
-  sessionChain = (chainAfter P (starting connectionChain) x.session).value
+  abbrev pub session_chain : Bytes
+  session_chain = (chain_after P (starting connection_chain) x.session).value
 
-  abbrev pub endMessages : List Bytes
-  endMessages = messagesFoldedIn P (starting fresh_chain) x.connection ++ messagesFoldedIn P (starting connectionChain) x.session
+  abbrev pub end_messages : List Bytes
+  end_messages = messages_folded_in P (starting fresh_chain) x.connection ++ messages_folded_in P (starting connection_chain) x.session
 
-  abbrev pub endStrings : List Bytes
-  endStrings = stringsHashed P (starting fresh_chain) x.connection ++ stringsHashed P (starting connectionChain) x.session
+  abbrev pub end_strings : List Bytes
+  end_strings = strings_hashed P (starting fresh_chain) x.connection ++ strings_hashed P (starting connection_chain) x.session
 
   abbrev pub EndInOrder : Type 0
-  EndInOrder = InOrder P (starting fresh_chain) x.connection × InOrder P (starting connectionChain) x.session
+  EndInOrder = InOrder P (starting fresh_chain) x.connection × InOrder P (starting connection_chain) x.session
 
--- ---- the two ends
+-- ____ the two ends
 
 -- x stands in the list, at some place
 abbrev pub Among : {A : Type 0} → A → List A → Type 0
@@ -176,7 +176,7 @@ module _ (P : Primitives) where
   -- "Both ends' strings count together."
   abbrev pub ChainsAgree : Type 0
   ChainsAgree =
-      (client server : ChainSteps) → EndInOrder P client → EndInOrder P server → sessionChain P client ≡ sessionChain P server
-      → (endMessages P client ≡ endMessages P server)
-      ⊎ Collision P.sha512 (endStrings P client ++ endStrings P server)
-      ⊎ ZeroHash P.sha512 (endStrings P client ++ endStrings P server)
+      (client server : ChainSteps) → EndInOrder P client → EndInOrder P server → session_chain P client ≡ session_chain P server
+      → (end_messages P client ≡ end_messages P server)
+      ⊎ Collision P.sha512 (end_strings P client ++ end_strings P server)
+      ⊎ ZeroHash P.sha512 (end_strings P client ++ end_strings P server)

@@ -16,7 +16,7 @@ use Rattle.protocol.specs.Calls.{sign_beginning, sign_piece, sign_finishing, ver
 use Rattle.demands.specs.Lines.{First, None}
 use Rattle.demands.specs.Walk.{Walked, Broken}
 
--- ---- the numbers that a call tests, in their order: "40 comes first and then the lowest number wins, except inside the walk"
+-- ____ the numbers that a call tests, in their order: "40 comes first and then the lowest number wins, except inside the walk"
 
 abbrev pub numbers_of : List Test → List ℕ
 numbers_of [] = []
@@ -51,7 +51,7 @@ order (stepping i by) = []
 order (sealing c id) = 1 ∷ 2 ∷ 3 ∷ 6 ∷ 7 ∷ 8 ∷ 35 ∷ 11 ∷ 12 ∷ 13 ∷ 14 ∷ 15 ∷ 16 ∷ 17 ∷ []
 order (opening c) = 1 ∷ 2 ∷ 3 ∷ 4 ∷ 5 ∷ 29 ∷ 6 ∷ 7 ∷ 8 ∷ 35 ∷ 9 ∷ 10 ∷ 11 ∷ 12 ∷ 13 ∷ 14 ∷ 15 ∷ 16 ∷ []
 
--- ---- the answer to tests, whichever call they are of
+-- ____ the answer to tests, whichever call they are of
 
 -- n is the number of the first rule that the walk finds broken
 abbrev pub Breaks : Inner → ℕ → Type 0
@@ -67,7 +67,7 @@ Visits (over m e) n = Walked m e n
 pub data Refuses (t : Tests) : ℕ → Type 0 where
   by_line : {n : ℕ} → First t.before n → Refuses t n
   by_walk : {n : ℕ} → None t.before → Breaks t.walked n → Refuses t n
-  by_later-line : {n : ℕ} (h : ℕ) → None t.before → Visits t.walked h → First t.later n → Refuses t n
+  by_later_line : {n : ℕ} (h : ℕ) → None t.before → Visits t.walked h → First t.later n → Refuses t n
 
 -- none applies, and the walk visits n headers
 pub record Passes (t : Tests) (n : ℕ) : Type 0 where
@@ -79,7 +79,7 @@ pub record Answers (t : Tests) : Type 0 where
   pub refuses : (n : ℕ) → (verdict t ≡ refused n) ↔ Refuses t n
   pub passes : (n : ℕ) → (verdict t ≡ done n) ↔ Passes t n
 
--- ---- the demand
+-- ____ the demand
 
 pub record Demand1 (P : Primitives) : Type 0 where
   pub orders : (c : Call) (w : Lent) → numbers_tested (tests P c w) ≡ order c

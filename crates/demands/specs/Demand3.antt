@@ -10,10 +10,10 @@ use Rattle.protocol.specs.Keys.{cipher_material}
 use Rattle.protocol.specs.SessionTable.{Session, Adding}
 use Rattle.protocol.specs.Transform.{Primitives}
 use Rattle.protocol.specs.Calls.{Call, adding, removing, sealing, opening, Lent, only_table, answer, left}
-use Rattle.demands.specs.Chains.{ChainSteps, endMessages, sessionChain, EndInOrder, Among, ChainsAgree}
-use Rattle.demands.specs.Steps.{Step, made, tableLeft}
+use Rattle.demands.specs.Chains.{ChainSteps, end_messages, session_chain, EndInOrder, Among, ChainsAgree}
+use Rattle.demands.specs.Steps.{Step, made, table_left}
 
--- ---- the two ends
+-- ____ the two ends
 
 -- at each end the steps on the chains, the key material, the table before the add ("whatever else the table held") and the steps after
 -- it; for both one id and one cipher
@@ -38,47 +38,47 @@ end_opens e r = opening (end_connection e r)
 
 module _ (P : Primitives) where
   -- what an end adds the session with: its chain value; 3.1.1, "for the cipher they use", neither as guest nor anonymous
-  abbrev pub sessionAdded : Ends → Role → Adding
-  sessionAdded e r =
+  abbrev pub session_added : Ends → Role → Adding
+  session_added e r =
       record {
         dialect = 0x0311;
         cipher = e.cipher;
-        chain = sessionChain P (e.chain_steps r);
+        chain = session_chain P (e.chain_steps r);
         id = e.id;
         material = e.material r;
         guest = false;
         anonymous = false;
       }
 
-  abbrev pub addedAt : Ends → Role → Step
-  addedAt e r = record { call = adding (sessionAdded e r); lent = only_table (e.table_before r) }
+  abbrev pub added_at : Ends → Role → Step
+  added_at e r = record { call = adding (session_added e r); lent = only_table (e.table_before r) }
 
   -- the steps of the end r: its list starts "right after that add"
-  abbrev pub madeAt : Ends → Role → List Step
-  madeAt e r = made P (tableLeft P (addedAt e r)) (e.steps r)
+  abbrev pub made_at : Ends → Role → List Step
+  made_at e r = made P (table_left P (added_at e r)) (e.steps r)
 
   pub record Premises (e : Ends) : Type 0 where
     -- what request e presumes of messages in pieces
     pub in_order : (r : Role) → EndInOrder P (e.chain_steps r)
     -- "let the messages folded in be the same"
-    pub same-messages : endMessages P (e.chain_steps client) ≡ endMessages P (e.chain_steps server)
+    pub same_messages : end_messages P (e.chain_steps client) ≡ end_messages P (e.chain_steps server)
     -- "the same session key", which "now reads 'the same full key material' for these ciphers"
     pub same_key : let wide = is_wide 0x0311 e.cipher in cipher_material wide (e.material client) ≡ cipher_material wide (e.material server)
     -- an id has 64 bits
     pub id-fits : e.id < 2 ^ 64
-    pub added-with-success : (r : Role) → answer P (adding (sessionAdded e r)) (only_table (e.table_before r)) ≡ done 0
+    pub added-with_success : (r : Role) → answer P (adding (session_added e r)) (only_table (e.table_before r)) ≡ done 0
     -- "only this id is not removed"
     pub kept : (r : Role) (s : Step) → Among s (e.steps r) → s.call ≢ removing e.id
 
   -- at the end r the message m was sealed for the session, with n inner headers, which left the sealed message
   pub data Seals (e : Ends) (r : Role) : Bytes → Bytes → ℕ → Type 0 where
     -- by a call of its list, which answered 0
-    by_call : {n : ℕ} (w : Lent) → Among (record { call = end_seals e r; lent = w }) (madeAt e r)
+    by_call : {n : ℕ} (w : Lent) → Among (record { call = end_seals e r; lent = w }) (made_at e r)
         → answer P (end_seals e r) w ≡ done n → Seals e r w.message (left P (end_seals e r) w).message n
 
   -- an opening of the end r is lent w, with "a copy of the sealed message in a buffer of its own"
   pub record LentToOpen (e : Ends) (r : Role) (sealed : Bytes) (w : Lent) : Type 0 where
-    pub called : Among (record { call = end_opens e r; lent = w }) (madeAt e r)
+    pub called : Among (record { call = end_opens e r; lent = w }) (made_at e r)
     pub copied : w.message ≡ sealed
 
   -- it "answers 0 with the seal's number of inner headers. From byte 52 on its buffer then holds the inner message that the seal was lent."

@@ -29,29 +29,29 @@ module _ (P : Primitives) where
   after_pieces u (p ∷ ps) = after_pieces (handed_on u p) ps
 
   -- "the pieces not refused"
-  abbrev pub notRefused : Underway → List Bytes → List Bytes
-  notRefused u [] = []
-  notRefused u (p ∷ ps) = when_done (answer P (fold_piece p) (only_underway u)) (λ n. p ∷ []) [] ++ notRefused (handed_on u p) ps
+  abbrev pub not_refused : Underway → List Bytes → List Bytes
+  not_refused u [] = []
+  not_refused u (p ∷ ps) = when_done (answer P (fold_piece p) (only_underway u)) (λ n. p ∷ []) [] ++ not_refused (handed_on u p) ps
 
   -- "the joined bytes of the pieces not refused", of a message begun on v
-  abbrev pub messageJoined : Bytes → List Bytes → Bytes
-  messageJoined v ps = joined_bytes (notRefused (begun_on v) ps)
+  abbrev pub message_joined : Bytes → List Bytes → Bytes
+  message_joined v ps = joined_bytes (not_refused (begun_on v) ps)
 
   -- what a finish is lent: the chain value x, and the state that the pieces left
-  abbrev pub atFinish : Bytes → Bytes → List Bytes → Lent
-  atFinish x v ps = chain_and_underway x (after_pieces (begun_on v) ps)
+  abbrev pub at_finish : Bytes → Bytes → List Bytes → Lent
+  at_finish x v ps = chain_and_underway x (after_pieces (begun_on v) ps)
 
   pub record InPieces : Type 0 where
     -- "The result equals one fold of the joined bytes of the pieces not refused into the value the message began from, wherever the cuts fall."
     pub same_answer : (kind : FoldKind) (v : Bytes) (ps : List Bytes) → length v ≡ 64
-        → answer P (fold_finishing kind) (atFinish v v ps) ≡ answer P (folding kind (messageJoined v ps)) (only_chain v)
+        → answer P (fold_finishing kind) (at_finish v v ps) ≡ answer P (folding kind (message_joined v ps)) (only_chain v)
     pub same-value : (kind : FoldKind) (v : Bytes) (ps : List Bytes) → length v ≡ 64
-        → (left P (fold_finishing kind) (atFinish v v ps)).chain ≡ (left P (folding kind (messageJoined v ps)) (only_chain v)).chain
+        → (left P (fold_finishing kind) (at_finish v v ps)).chain ≡ (left P (folding kind (message_joined v ps)) (only_chain v)).chain
     -- "into the value the message began from", whatever the value x is that the finish is lent
-    pub from_start : (kind : FoldKind) (v x : Bytes) (ps : List Bytes) → length v ≡ 64 → length x ≡ 64 → goes_in kind (messageJoined v ps) ≡ true
-        → (left P (fold_finishing kind) (atFinish x v ps)).chain ≡ (left P (folding kind (messageJoined v ps)) (only_chain v)).chain
+    pub from_start : (kind : FoldKind) (v x : Bytes) (ps : List Bytes) → length v ≡ 64 → length x ≡ 64 → goes_in kind (message_joined v ps) ≡ true
+        → (left P (fold_finishing kind) (at_finish x v ps)).chain ≡ (left P (folding kind (message_joined v ps)) (only_chain v)).chain
     -- no piece is refused where all of them fit together
-    pub all-taken : (v : Bytes) (ps : List Bytes) → length v ≡ 64 → length (joined_bytes ps) ≤ longest_message → notRefused (begun_on v) ps ≡ ps
+    pub all_taken : (v : Bytes) (ps : List Bytes) → length v ≡ 64 → length (joined_bytes ps) ≤ longest_message → not_refused (begun_on v) ps ≡ ps
     -- "An abandoned message leaves the chain value"
-    pub begin-leaves : (v : Bytes) (w : Lent) → (left P (fold_beginning v) w).chain ≡ w.chain
-    pub piece-leaves : (p : Bytes) (w : Lent) → (left P (fold_piece p) w).chain ≡ w.chain
+    pub begin_leaves : (v : Bytes) (w : Lent) → (left P (fold_beginning v) w).chain ≡ w.chain
+    pub piece_leaves : (p : Bytes) (w : Lent) → (left P (fold_piece p) w).chain ≡ w.chain

@@ -15,10 +15,10 @@ abbrev pub on_table : List Session → Step → Step
 on_table t s = record { call = s.call; lent = with_table t s.lent }
 
 module _ (P : Primitives) where
-  abbrev pub tableLeft : Step → List Session
-  tableLeft s = (left P s.call s.lent).table
+  abbrev pub table_left : Step → List Session
+  table_left s = (left P s.call s.lent).table
 
   -- the steps as they are made: "Each call gets the table as the one before left it, and nobody else writes it meanwhile."
   abbrev pub made : List Session → List Step → List Step
   made t [] = []
-  made t (s ∷ ss) = on_table t s ∷ made (tableLeft (on_table t s)) ss
+  made t (s ∷ ss) = on_table t s ∷ made (table_left (on_table t s)) ss

@@ -13,7 +13,7 @@ use Rattle.protocol.specs.Bytes.{Bytes}
 use Rattle.protocol.specs.Connection.{is_wide, cipher_key_bytes}
 use Rattle.protocol.specs.Keys as rules
 use Rattle.protocol.specs.Keys.{session_key, cipher_material, smb_c2_s_cipher_key, smb_s2_c_cipher_key, smb2_aes_ccm, server_in, server_out, keys311, keys300}
-use Rattle.protocol.specs.Keys.{derivedKeys}
+use Rattle.protocol.specs.Keys.{derived_keys}
 use Rattle.protocol.specs.Suite.{kdf}
 use Rattle.protocol.proofs.SuiteLaws.{kdf_is, suite_sound}
 use Rattle.derived_keys.specs.declared.Keys.{Keys}
@@ -25,44 +25,44 @@ pub key_is : (r k material label context : Bytes) → k ≡ session_key material
 key_is r k material label context ek e = e ∙ ap (λ (x : Bytes). derive_sha256 16 x label context) ek ∙ sym (kdf_is 16 (session_key material) label context)
 
 module _ (wide : Bool) (material label context r : Bytes) where
-  abbrev cipherKey : Bytes
-  cipherKey = kdf (cipher_key_bytes wide) (cipher_material wide material) label context
+  abbrev cipher_key : Bytes
+  cipher_key = kdf (cipher_key_bytes wide) (cipher_material wide material) label context
 
-  pub wide_key : wide ≡ true → r ≡ derive_sha256 32 material label context → r ≡ zero_padded 32 cipherKey
+  pub wide_key : wide ≡ true → r ≡ derive_sha256 32 material label context → r ≡ zero_padded 32 cipher_key
   wide_key w e =
       e
       ∙ sym (kdf_is 32 material label context)
       ∙ sym (zero_padded_exact 32 _ (suite_sound.key-length true material label context))
       ∙ rw w
 
-  pub narrow-key : (k d : Bytes) → wide ≡ false → k ≡ session_key material → d ≡ derive_sha256 16 k label context → r ≡ zero_padded 32 d
-      → r ≡ zero_padded 32 cipherKey
-  narrow-key k d w ek ed e = e ∙ ap (zero_padded 32) (key_is d k material label context ek ed) ∙ rw w
+  pub narrow_key : (k d : Bytes) → wide ≡ false → k ≡ session_key material → d ≡ derive_sha256 16 k label context → r ≡ zero_padded 32 d
+      → r ≡ zero_padded 32 cipher_key
+  narrow_key k d w ek ed e = e ∙ ap (zero_padded 32) (key_is d k material label context ek ed) ∙ rw w
 
 pub same_keys : (k : Keys) (l : rules.Keys) → k.signing ≡ l.signing → k.application ≡ l.application
     → k.client_to_server ≡ zero_padded 32 l.client_to_server → k.server_to_client ≡ zero_padded 32 l.server_to_client → k ≡ stored l
 same_keys k l s a c d = λ i. record { signing = s i; application = a i; client_to_server = c i; server_to_client = d i }
 
 module _ (dialect cipher : ℕ) (chain material : Bytes) where
-  pub derived-311 : (k : Keys) (wide : Bool) → wide ≡ is_wide dialect cipher → dialect ≡ 0x0311 → k ≡ stored (keys311 kdf wide chain material)
-      → k ≡ stored (derivedKeys kdf dialect cipher chain material)
-  unfolding derivedKeys
-  derived-311 k wide w e h = h ∙ ap (λ (x : Bool). stored (keys311 kdf x chain material)) w ∙ rw (eq-eqb dialect 0x0311 e)
+  pub derived_311 : (k : Keys) (wide : Bool) → wide ≡ is_wide dialect cipher → dialect ≡ 0x0311 → k ≡ stored (keys311 kdf wide chain material)
+      → k ≡ stored (derived_keys kdf dialect cipher chain material)
+  unfolding derived_keys
+  derived_311 k wide w e h = h ∙ ap (λ (x : Bool). stored (keys311 kdf x chain material)) w ∙ rw (eq-eqb dialect 0x0311 e)
 
-  pub derived-300 : (k : Keys) → (dialect ≡ 0x0311 → ⊥) → k ≡ stored (keys300 kdf material) → k ≡ stored (derivedKeys kdf dialect cipher chain material)
-  unfolding derivedKeys
-  derived-300 k e h = h ∙ rw (ne_eqb dialect 0x0311 e)
+  pub derived_300 : (k : Keys) → (dialect ≡ 0x0311 → ⊥) → k ≡ stored (keys300 kdf material) → k ≡ stored (derived_keys kdf dialect cipher chain material)
+  unfolding derived_keys
+  derived_300 k e h = h ∙ rw (ne_eqb dialect 0x0311 e)
 
 -- each cipher key has the bytes of its size
 module _ (dialect cipher : ℕ) (chain material : Bytes) where
   abbrev long : Bool
   long = eqb cipher 3 || eqb cipher 4
 
-  abbrev keysFor : Bool → rules.Keys
-  keysFor b = cond b (keys311 kdf (b && long) chain material) (keys300 kdf material)
+  abbrev keys_for : Bool → rules.Keys
+  keys_for b = cond b (keys311 kdf (b && long) chain material) (keys300 kdf material)
 
   lengths : (b : Bool)
-      → (length (keysFor b).client_to_server ≡ cipher_key_bytes (b && long)) × (length (keysFor b).server_to_client ≡ cipher_key_bytes (b && long))
+      → (length (keys_for b).client_to_server ≡ cipher_key_bytes (b && long)) × (length (keys_for b).server_to_client ≡ cipher_key_bytes (b && long))
   lengths true = (
     suite_sound.key-length long (cipher_material long material) smb_c2_s_cipher_key chain,
     suite_sound.key-length long (cipher_material long material) smb_s2_c_cipher_key chain,
@@ -70,8 +70,8 @@ module _ (dialect cipher : ℕ) (chain material : Bytes) where
   lengths false =
       (suite_sound.key-length false (session_key material) smb2_aes_ccm server_in, suite_sound.key-length false (session_key material) smb2_aes_ccm server_out)
 
-  pub derived-lengths : (wide : Bool) → wide ≡ is_wide dialect cipher
-      → (length (derivedKeys kdf dialect cipher chain material).client_to_server ≡ cipher_key_bytes wide)
-      × (length (derivedKeys kdf dialect cipher chain material).server_to_client ≡ cipher_key_bytes wide)
-  unfolding derivedKeys
-  derived-lengths wide w = rw w (lengths (eqb dialect 0x0311))
+  pub derived_lengths : (wide : Bool) → wide ≡ is_wide dialect cipher
+      → (length (derived_keys kdf dialect cipher chain material).client_to_server ≡ cipher_key_bytes wide)
+      × (length (derived_keys kdf dialect cipher chain material).server_to_client ≡ cipher_key_bytes wide)
+  unfolding derived_keys
+  derived_lengths wide w = rw w (lengths (eqb dialect 0x0311))

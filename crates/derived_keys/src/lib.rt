@@ -1,8 +1,10 @@
 // The table of RULES 7: a label and a context for each key. Both carry their own final zero byte.
+#![tactic(auto)]
+
 ghost use Rattle.std.specs.Prelude.{◌≡◌};
 ghost use Rattle.octets.specs.Blocks.{zero_padded};
 ghost use Rattle.protocol.specs.Connection.{cipher_key_bytes};
-ghost use Rattle.protocol.specs.Keys.{cipher_material, keys311, keys300, derivedKeys};
+ghost use Rattle.protocol.specs.Keys.{cipher_material, keys311, keys300, derived_keys};
 ghost use Rattle.protocol.specs.Suite.{kdf};
 ghost use Rattle.derived_keys.specs.Reading.{stored};
 
@@ -74,7 +76,7 @@ fn keys_300(material: &[u8]) -> Keys
 
 // The four keys out of the key material.
 pub fn derived(dialect: u16, cipher: u16, chain: &[u8], material: &[u8]) -> Keys
-    ensures { result ≡ stored (derivedKeys kdf dialect cipher chain.now material.now) }
+    ensures { result ≡ stored (derived_keys kdf dialect cipher chain.now material.now) }
 {
     let wide = connection::is_wide(dialect, cipher);
     if dialect == 0x0311 {

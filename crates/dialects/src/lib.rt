@@ -1,4 +1,6 @@
 // Dialects and ciphers by their numbers, and the sizes of keys that follow from them (RULES 1, 6 and 7).
+#![tactic(auto)]
+
 ghost use Rattle.std.specs.Prelude.{◌≡◌};
 ghost use Rattle.protocol.specs.Connection.{known_dialect, is_gcm, is_wide, cipher_key_bytes, place_bytes};
 

@@ -1,4 +1,6 @@
 // What the walk is told of a message: whether it comes from the server is a matter of the role that seals or opens it.
+#![tactic(auto)]
+
 ghost use Rattle.std.specs.Prelude.{◌≡◌};
 ghost use Rattle.protocol.specs.Connection.{other};
 ghost use Rattle.protocol.specs.Calls.{sent_by};

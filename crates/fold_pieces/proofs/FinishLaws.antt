@@ -15,14 +15,14 @@ use Rattle.sha512.specs.Code.{finished}
 use Rattle.sha512.proofs.AnyState.{finished_is}
 use Rattle.protocol.specs.Bytes.{Bytes}
 use Rattle.protocol.specs.Answer.{Answer, done, refused, answer_number, carried, when_done, judge}
-use Rattle.protocol.specs.Preauth.{FoldKind, negotiateMessage, setupRequest, setupResponse, admitted, more_processing, status_allows}
+use Rattle.protocol.specs.Preauth.{FoldKind, negotiate_message, setup_request, setup_response, admitted, more_processing, status_allows}
 use Rattle.protocol.specs.Pieces.{Underway, message_of, finished_value}
 use Rattle.protocol.specs.Refusals.{fold_length, bad_length}
 use Rattle.protocol.specs.Calls.{fold_finishing, chain_and_underway, fold_tests, tests, effect}
 use Rattle.protocol.specs.Contract.{Makes}
 use Rattle.protocol.specs.Suite.{suite, sha512}
 use Rattle.protocol.proofs.SuiteLaws.{sha512_is}
-use Rattle.preauth.proofs.FoldLaws.{refused-40, refused-23, left_out, folded_in, mark-carried, limits}
+use Rattle.preauth.proofs.FoldLaws.{refused_40, refused_23, left_out, folded_in, mark-carried, limits}
 use Rattle.fold_pieces.specs.declared.FoldState.{FoldState}
 use Rattle.fold_pieces.specs.declared.FoldStep.{FoldStep}
 use Rattle.fold_pieces.specs.State.{StandsFor, ends}
@@ -30,22 +30,22 @@ use Rattle.fold_pieces.specs.Clauses.{end_lines, end_answer, ended_with, end_ste
 use Rattle.fold_pieces.proofs.HeadLaws.{status_kept}
 use Rattle.fold_pieces.proofs.StateLaws.{ends_is}
 
--- ---- by the way out that the code takes
+-- ____ by the way out that the code takes
 
 module _ (s : FoldState) (allowed : Bool) (v : Bytes) where
-  pub closed-40 : length v ≢ 64 → (refused 40 ≡ end_answer s allowed v) × (v ≡ end_value s allowed v)
+  pub closed_40 : length v ≢ 64 → (refused 40 ≡ end_answer s allowed v) × (v ≡ end_value s allowed v)
   unfolding end_value
-  closed-40 h = let e = ne_eqb (length v) 64 h in (rw e, rw e)
+  closed_40 h = let e = ne_eqb (length v) 64 h in (rw e, rw e)
 
   module _ (l : length v ≡ 64) where
-    pub closed-23 : ends s ≡ false → (refused 23 ≡ end_answer s allowed v) × (v ≡ end_value s allowed v)
+    pub closed_23 : ends s ≡ false → (refused 23 ≡ end_answer s allowed v) × (v ≡ end_value s allowed v)
     unfolding end_value
-    closed-23 e = let f = eq-eqb (length v) 64 l in (rw (f, e), rw (f, e))
+    closed_23 e = let f = eq-eqb (length v) 64 l in (rw (f, e), rw (f, e))
 
     module _ (e : ends s ≡ true) where
-      pub closed-out : allowed ≡ false → (done 0 ≡ end_answer s allowed v) × (v ≡ end_value s allowed v)
+      pub closed_out : allowed ≡ false → (done 0 ≡ end_answer s allowed v) × (v ≡ end_value s allowed v)
       unfolding end_value
-      closed-out a = let f = eq-eqb (length v) 64 l in (rw (f, e, a), rw (f, e, a))
+      closed_out a = let f = eq-eqb (length v) 64 l in (rw (f, e, a), rw (f, e, a))
 
       pub closed_in : {v' : Bytes} → allowed ≡ true → v' ≡ finished s.hash → (done 1 ≡ end_answer s allowed v) × (v' ≡ end_value s allowed v)
       unfolding end_value
@@ -55,7 +55,7 @@ module _ (s : FoldState) (allowed : Bool) (v : Bytes) where
   unfolding end_step
   ended_by k f = record { hands_back = f ∙ ap ended_with k.0; leaves = k.1 }
 
--- ---- the call
+-- ____ the call
 
 finish_tests : (kind : FoldKind) (v : Bytes) (u : Underway) → tests suite (fold_finishing kind) (chain_and_underway v u) ≡ fold_tests kind v (message_of u)
 unfolding tests
@@ -71,7 +71,7 @@ finish_puts : (kind : FoldKind) (v v' : Bytes) (u : Underway) → status_allows 
 unfolding effect finished_value
 finish_puts kind v v' u b e = rw (b, e)
 
--- ---- a state that stands for a message
+-- ____ a state that stands for a message
 
 module _ (s : FoldState) (u : Underway) (k : StandsFor s u) where
   -- of one that 23 admits
@@ -83,10 +83,10 @@ module _ (s : FoldState) (u : Underway) (k : StandsFor s u) where
     joined_is = ap (λ (b : Bool). cond b u.joined []) begun
 
     -- the status is read from the bytes that are kept
-    status-is : (kind : FoldKind) → status_allows kind s.head ≡ status_allows kind (message_of u)
-    status-is negotiateMessage = refl
-    status-is setupRequest = refl
-    status-is setupResponse =
+    status_is : (kind : FoldKind) → status_allows kind s.head ≡ status_allows kind (message_of u)
+    status_is negotiate_message = refl
+    status_is setup_request = refl
+    status_is setup_response =
         let x = k.hashes begun in
         let n : length u.joined ≡ length (message_of u) = ap length (sym joined_is) in
         let c = x.counted in
@@ -110,25 +110,25 @@ module _ (s : FoldState) (u : Underway) (k : StandsFor s u) where
     allowed = status_allows kind s.head
 
     -- by what is tested
-    abbrev answerIf : Bool → Bool → Bool → Answer
-    answerIf size fits status = judge (bad_length size ∷ fold_length fits ∷ []) (done (cond status 1 0))
+    abbrev answer_if : Bool → Bool → Bool → Answer
+    answer_if size fits status = judge (bad_length size ∷ fold_length fits ∷ []) (done (cond status 1 0))
 
     makes : (a b c : Bool) → eqb (length v) 64 ≡ a → ends s ≡ b → allowed ≡ c
-        → Makes (fold_finishing kind) (chain_and_underway v u) (answerIf a b c)
-        (chain_and_underway (when_done (answerIf a b c) (λ n. cond c (finished s.hash) v) v) u)
+        → Makes (fold_finishing kind) (chain_and_underway v u) (answer_if a b c)
+        (chain_and_underway (when_done (answer_if a b c) (λ n. cond c (finished s.hash) v) v) u)
     makes false b c ea eb ec =
-        refused-40 (fold_finishing kind) (chain_and_underway v u) kind (message_of u) (finish_tests kind v u) (eqb-false (length v) 64 ea)
+        refused_40 (fold_finishing kind) (chain_and_underway v u) kind (message_of u) (finish_tests kind v u) (eqb-false (length v) 64 ea)
     makes true false c ea eb ec =
-        refused-23 (fold_finishing kind) (chain_and_underway v u) kind (message_of u) (finish_tests kind v u) (eqb-true (length v) 64 ea)
+        refused_23 (fold_finishing kind) (chain_and_underway v u) kind (message_of u) (finish_tests kind v u) (eqb-true (length v) 64 ea)
         (sym (ends_is s u k) ∙ eb)
     makes true true false ea eb ec =
         let fits = sym (ends_is s u k) ∙ eb in
-        let out = sym (status-is fits kind) ∙ ec in
+        let out = sym (status_is fits kind) ∙ ec in
         left_out (fold_finishing kind) (chain_and_underway v u) kind (message_of u) (finish_tests kind v u) (eqb-true (length v) 64 ea) fits out
         (finish_leaves kind v u out)
     makes true true true ea eb ec =
         let fits = sym (ends_is s u k) ∙ eb in
-        let in-it = sym (status-is fits kind) ∙ ec in
+        let in-it = sym (status_is fits kind) ∙ ec in
         folded_in (fold_finishing kind) (chain_and_underway v u) kind (message_of u) (finish_tests kind v u) (eqb-true (length v) 64 ea) fits
         (chain_and_underway (finished s.hash) u) in-it (finish_puts kind v (finished s.hash) u in-it (value-is fits))
 

@@ -20,8 +20,8 @@ front_at head p i = paste head i (take (12 - i) p) (length (take (12 - i) p))
 
 module _ (head m p : List ℕ) (j : ℕ) (room : length head ≡ 12) (counted : j ≡ length m) (kept : take j head ≡ take 12 m) where
   -- they are there already
-  keep-whole : 12 ≤ j → take (j + length p) head ≡ take 12 (m ++ p)
-  keep-whole h =
+  keep_whole : 12 ≤ j → take (j + length p) head ≡ take 12 (m ++ p)
+  keep_whole h =
       take_all (j + length p) head (omega arith) ∙ sym (take_all j head (omega arith)) ∙ kept ∙ sym (take-append-le 12 m p (omega arith))
 
   -- what m and the copied bytes q make of them
@@ -32,15 +32,15 @@ module _ (head m p : List ℕ) (j : ℕ) (room : length head ≡ 12) (counted : 
       ∙ ap₂ (λ (x y : List ℕ). x ++ y) (kept ∙ take_all 12 m (omega arith)) (take-length q)
 
   -- all of the piece is among them
-  keep-less : (after : List ℕ) → j + length p ≤ 12 → after ≡ paste head j p (length p) → take (j + length p) after ≡ take 12 (m ++ p)
-  keep-less after h e =
+  keep_less : (after : List ℕ) → j + length p ≤ 12 → after ≡ paste head j p (length p) → take (j + length p) after ≡ take 12 (m ++ p)
+  keep_less after h e =
       let l : length (m ++ p) ≡ length m + length p = length-append m p in
       front p after h e ∙ sym (take_all 12 (m ++ p) (omega arith))
 
   -- only its start is
-  keep-part : (q after : List ℕ) → j ≤ 12 → 12 - j ≤ length p → q ≡ take (12 - j) p → after ≡ paste head j q (length q)
+  keep_part : (q after : List ℕ) → j ≤ 12 → 12 - j ≤ length p → q ≡ take (12 - j) p → after ≡ paste head j q (length q)
       → take (j + length p) after ≡ take 12 (m ++ p)
-  keep-part q after h n eq e =
+  keep_part q after h n eq e =
       let lq : length q ≡ 12 - j = ap length eq ∙ length-take-le (12 - j) p n in
       let la : length after ≡ 12 = ap length e ∙ length-paste head j q (length q) (omega arith) (le_refl (length q)) ∙ room in
       let whole : length m + (12 - j) ≡ 12 = omega arith in
@@ -61,16 +61,16 @@ module _ (head m p : List ℕ) (j : ℕ) (room : length head ≡ 12) (counted : 
           let hj = leb-true j 12 ha in
           let hp = leb-true (length p) (12 - j) hb in
           let ej : min j 12 ≡ j = omega (arith, hj) in
-          keep-less _ (omega (arith, hj, hp)) (ap (front_at head p) ej ∙ ap (λ (x : List ℕ). paste head j x (length x)) (take_all (12 - j) p hp))
+          keep_less _ (omega (arith, hj, hp)) (ap (front_at head p) ej ∙ ap (λ (x : List ℕ). paste head j x (length x)) (take_all (12 - j) p hp))
       go true false ha hb =
           let hj = leb-true j 12 ha in
           let hp = leb-false (length p) (12 - j) hb in
           let ej : min j 12 ≡ j = omega (arith, hj) in
-          keep-part (take (12 - j) p) _ hj (omega (arith, hp)) refl (ap (front_at head p) ej)
+          keep_part (take (12 - j) p) _ hj (omega (arith, hp)) refl (ap (front_at head p) ej)
       go false b ha hb =
           let hj = leb-false j 12 ha in
           let ej : min j 12 ≡ 12 = omega (arith, hj) in
-          ap (take (j + length p)) (ap (front_at head p) ej ∙ sym (paste-zero head 12 [])) ∙ keep-whole (omega (arith, hj))
+          ap (take (j + length p)) (ap (front_at head p) ej ∙ sym (paste-zero head 12 [])) ∙ keep_whole (omega (arith, hj))
 
 -- they stay twelve
 pub head-length : (head p : List ℕ) (j : ℕ) → length head ≡ 12 → length (head_with head j p) ≡ 12

@@ -1,8 +1,8 @@
 -- Of a state that stands for a message, the steps are what the calls answer and leave.
 -- Assumes nothing.
 use Rattle.fold_pieces.specs.Clauses.{InCalls}
-use Rattle.fold_pieces.proofs.StateLaws.{begin_hands_on, piece-hands-on}
+use Rattle.fold_pieces.proofs.StateLaws.{begin_hands_on, piece_hands_on}
 use Rattle.fold_pieces.proofs.FinishLaws.{finish-is}
 
 pub in_calls : InCalls
-in_calls = record { begins = begin_hands_on; takes-pieces = piece-hands-on; finishes = λ kind s u h v. finish-is s u h kind v }
+in_calls = record { begins = begin_hands_on; takes-pieces = piece_hands_on; finishes = λ kind s u h v. finish-is s u h kind v }

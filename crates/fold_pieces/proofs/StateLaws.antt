@@ -26,40 +26,40 @@ use Rattle.fold_pieces.specs.State.{Hashes, StandsFor, no_message, begun_on, joi
 use Rattle.fold_pieces.specs.Clauses.{begin_step, piece_step, HandsOn}
 use Rattle.fold_pieces.proofs.HeadLaws.{kept-with, head-length}
 
--- ---- by the way out that the code takes
+-- ____ by the way out that the code takes
 
 module _ (v : Bytes) where
-  abbrev begunIf : Bool → FoldStep
-  begunIf fits = cond fits (step_with (begun_on v) 0) (step_with no_message 40)
+  abbrev begun_if : Bool → FoldStep
+  begun_if fits = cond fits (step_with (begun_on v) 0) (step_with no_message 40)
 
-  pub begin-refused : {s : FoldState} {r : FoldStep} → length v ≢ 64 → s ≡ no_message → r ≡ step_with s 40 → r ≡ begin_step v
+  pub begin_refused : {s : FoldState} {r : FoldStep} → length v ≢ 64 → s ≡ no_message → r ≡ step_with s 40 → r ≡ begin_step v
   unfolding begin_step
-  begin-refused h es er = er ∙ ap (λ (x : FoldState). step_with x 40) es ∙ sym (ap begunIf (ne_eqb (length v) 64 h))
+  begin_refused h es er = er ∙ ap (λ (x : FoldState). step_with x 40) es ∙ sym (ap begun_if (ne_eqb (length v) 64 h))
 
   abbrev fresh : Sha512 → FoldState
   fresh h = record { hash = h; joined = 0; head = replicate 12 0; underway = 1; spare = replicate 3 0 }
 
-  pub begin-done : {h : Sha512} {r : FoldStep} → length v ≡ 64 → h ≡ updated nothing_taken v → r ≡ step_with (fresh h) 0 → r ≡ begin_step v
+  pub begin_done : {h : Sha512} {r : FoldStep} → length v ≡ 64 → h ≡ updated nothing_taken v → r ≡ step_with (fresh h) 0 → r ≡ begin_step v
   unfolding begin_step begun_on
-  begin-done l eh er = er ∙ ap (λ (x : Sha512). step_with (fresh x) 0) eh ∙ sym (ap begunIf (eq-eqb (length v) 64 l))
+  begin_done l eh er = er ∙ ap (λ (x : Sha512). step_with (fresh x) 0) eh ∙ sym (ap begun_if (eq-eqb (length v) 64 l))
 
 module _ (s : FoldState) (p : Bytes) where
-  abbrev takenIf : Bool → FoldStep
-  takenIf fits = cond fits (step_with (joined_by s p) 0) (step_with s 23)
+  abbrev taken_if : Bool → FoldStep
+  taken_if fits = cond fits (step_with (joined_by s p) 0) (step_with s 23)
 
-  pub piece-refused : {r : FoldStep} → takes s (length p) ≡ false → r ≡ step_with s 23 → r ≡ piece_step s p
+  pub piece_refused : {r : FoldStep} → takes s (length p) ≡ false → r ≡ step_with s 23 → r ≡ piece_step s p
   unfolding piece_step
-  piece-refused e er = er ∙ sym (ap takenIf e)
+  piece_refused e er = er ∙ sym (ap taken_if e)
 
   abbrev after : Sha512 → List ℕ → FoldState
   after h head = record { hash = h; joined = s.joined + length p; head = head; underway = s.underway; spare = s.spare }
 
-  pub piece-taken : {h : Sha512} {head : List ℕ} {r : FoldStep} → takes s (length p) ≡ true → h ≡ updated s.hash p
+  pub piece_taken : {h : Sha512} {head : List ℕ} {r : FoldStep} → takes s (length p) ≡ true → h ≡ updated s.hash p
       → head ≡ head_with s.head s.joined p → r ≡ step_with (after h head) 0 → r ≡ piece_step s p
   unfolding piece_step joined_by
-  piece-taken e eh ed er = er ∙ ap₂ (λ (x : Sha512) (d : List ℕ). step_with (after x d) 0) eh ed ∙ sym (ap takenIf e)
+  piece_taken e eh ed er = er ∙ ap₂ (λ (x : Sha512) (d : List ℕ). step_with (after x d) 0) eh ed ∙ sym (ap taken_if e)
 
--- ---- what a begin hands back stands for a message, or for none
+-- ____ what a begin hands back stands for a message, or for none
 
 -- what the hash holds does not count
 pub without_message : StandsFor no_message not_begun
@@ -81,47 +81,47 @@ module _ (v : Bytes) where
   lent = only_underway not_begun
 
   -- by whether the value has its length
-  abbrev underwayIf : Bool → Underway
-  underwayIf fits = (when_done (cond (not fits) (refused 40) (done 0)) (λ n. effect suite (fold_beginning v) lent) lent).underway
+  abbrev underway_if : Bool → Underway
+  underway_if fits = (when_done (cond (not fits) (refused 40) (done 0)) (λ n. effect suite (fold_beginning v) lent) lent).underway
 
-  abbrev numberIf : Bool → ℕ
-  numberIf fits = answer_number (cond (not fits) (refused 40) (done 0))
+  abbrev number_if : Bool → ℕ
+  number_if fits = answer_number (cond (not fits) (refused 40) (done 0))
 
   pub begin_hands_on : HandsOn (fold_beginning v) not_begun (begin_step v)
   unfolding begin_step tests effect
   begin_hands_on = go (eqb (length v) 64) refl
     where
-      go : (b : Bool) → eqb (length v) 64 ≡ b → HandsOn (fold_beginning v) not_begun (begunIf v b)
+      go : (b : Bool) → eqb (length v) 64 ≡ b → HandsOn (fold_beginning v) not_begun (begun_if v b)
       go true e =
           record {
-            number = ap numberIf (sym e);
+            number = ap number_if (sym e);
             mark = refl;
-            stands = rw (← ap underwayIf (sym e)) (begun-stands (eqb-true (length v) 64 e));
+            stands = rw (← ap underway_if (sym e)) (begun-stands (eqb-true (length v) 64 e));
           }
-      go false e = record { number = ap numberIf (sym e); mark = refl; stands = rw (← ap underwayIf (sym e)) without_message }
+      go false e = record { number = ap number_if (sym e); mark = refl; stands = rw (← ap underway_if (sym e)) without_message }
 
--- ---- a state that stands for a message tests what the call tests
+-- ____ a state that stands for a message tests what the call tests
 
 module _ (s : FoldState) (u : Underway) (h : StandsFor s u) where
   -- by whether one is under way
-  test-is : (f : ℕ → Bool) → (flag s.underway && f s.joined) ≡ (u.begun && f (length u.joined))
-  test-is f = go (flag s.underway) u.begun h.same-begun h.hashes
+  test_is : (f : ℕ → Bool) → (flag s.underway && f s.joined) ≡ (u.begun && f (length u.joined))
+  test_is f = go (flag s.underway) u.begun h.same-begun h.hashes
     where
       go : (a b : Bool) → a ≡ b → (b ≡ true → Hashes s u) → (a && f s.joined) ≡ (b && f (length u.joined))
       go a true e k = rw e (ap f (k refl).counted)
       go a false e k = rw e
 
   pub takes-is : (p : Bytes) → takes s (length p) ≡ piece_fits u p
-  takes-is p = test-is (λ n. leb (n + length p) longest_message)
+  takes-is p = test_is (λ n. leb (n + length p) longest_message)
 
   pub ends_is : ends s ≡ admitted (message_of u)
-  ends_is = test-is admits_length ∙ go u.begun
+  ends_is = test_is admits_length ∙ go u.begun
     where
       go : (b : Bool) → (b && admits_length (length u.joined)) ≡ admitted (cond b u.joined [])
       go true = refl
       go false = refl
 
-  -- ---- and after a piece it stands for the message with it
+  -- ____ and after a piece it stands for the message with it
 
   module _ (p : Bytes) where
     joined-stands : StandsFor (joined_by s p) (with_piece p u)
@@ -140,21 +140,21 @@ module _ (s : FoldState) (u : Underway) (h : StandsFor s u) where
             }
 
     -- by whether it fits
-    abbrev afterIf : Bool → Underway
-    afterIf fits =
+    abbrev after_if : Bool → Underway
+    after_if fits =
         (when_done (cond (not fits) (refused 23) (done 0)) (λ n. effect suite (fold_piece p) (only_underway u)) (only_underway u)).underway
 
-    abbrev pieceNumberIf : Bool → ℕ
-    pieceNumberIf fits = answer_number (cond (not fits) (refused 23) (done 0))
+    abbrev piece_number_if : Bool → ℕ
+    piece_number_if fits = answer_number (cond (not fits) (refused 23) (done 0))
 
-    pub piece-hands-on : HandsOn (fold_piece p) u (piece_step s p)
+    pub piece_hands_on : HandsOn (fold_piece p) u (piece_step s p)
     unfolding piece_step tests effect
-    piece-hands-on = go (takes s (length p)) refl
+    piece_hands_on = go (takes s (length p)) refl
       where
-        go : (b : Bool) → takes s (length p) ≡ b → HandsOn (fold_piece p) u (takenIf s p b)
+        go : (b : Bool) → takes s (length p) ≡ b → HandsOn (fold_piece p) u (taken_if s p b)
         go true e =
             let b = sym e ∙ takes-is p in
-            record { number = ap pieceNumberIf b; mark = refl; stands = rw (← ap afterIf b) joined-stands }
+            record { number = ap piece_number_if b; mark = refl; stands = rw (← ap after_if b) joined-stands }
         go false e =
             let b = sym e ∙ takes-is p in
-            record { number = ap pieceNumberIf b; mark = refl; stands = rw (← ap afterIf b) h }
+            record { number = ap piece_number_if b; mark = refl; stands = rw (← ap after_if b) h }

@@ -1,4 +1,6 @@
 // A message folded as it arrives (RULES 8): the running hash is handed on from piece to piece.
+#![tactic(auto)]
+
 ghost use Rattle.std.specs.Prelude.{◌≡◌, true};
 ghost use Rattle.protocol.specs.Preauth.{more_processing};
 ghost use Rattle.answer.specs.Reading.{answer_of};

@@ -12,7 +12,7 @@ use Rattle.octets.proofs.XorWith.{length-xor}
 use Rattle.octets.proofs.MaybeLaws.{given_by}
 use Rattle.octets.proofs.SameLaws.{same_self}
 use Rattle.ctr.specs.Ctr.{counter_blocks}
-use Rattle.ctr.proofs.CtrLaws.{length-ctr, ctr-twice}
+use Rattle.ctr.proofs.CtrLaws.{length-ctr, ctr_twice}
 use Rattle.ghash.specs.Ghash.{ghash}
 use Rattle.gcm.specs.Gcm.{encrypt, hash_subkey, hash_input, pre_counter_block, tag, decrypt}
 
@@ -21,9 +21,9 @@ module _ (E : List ℕ → List ℕ) (nonce : List ℕ) where
   unfolding encrypt
   length-encrypt text = length-ctr E (counter_blocks nonce 2) text
 
-  pub encrypt-twice : (text : List ℕ) → encrypt E nonce (encrypt E nonce text) ≡ text
+  pub encrypt_twice : (text : List ℕ) → encrypt E nonce (encrypt E nonce text) ≡ text
   unfolding encrypt
-  encrypt-twice text = ctr-twice E (counter_blocks nonce 2) text
+  encrypt_twice text = ctr_twice E (counter_blocks nonce 2) text
 
   module _ (aad : List ℕ) where
     pub length-tag : (body : List ℕ) → length (tag E nonce aad body) ≡ 16
@@ -34,11 +34,11 @@ module _ (E : List ℕ → List ℕ) (nonce : List ℕ) where
 
     pub decrypts : (text : List ℕ) → decrypt E nonce aad (tag E nonce aad (encrypt E nonce text)) (encrypt E nonce text) ≡ some text
     unfolding decrypt
-    decrypts text = rw (same_self (tag E nonce aad (encrypt E nonce text)), encrypt-twice text)
+    decrypts text = rw (same_self (tag E nonce aad (encrypt E nonce text)), encrypt_twice text)
 
     module _ (t body : List ℕ) where
       -- what was decrypted, encrypted again, is the body
       pub encrypts-again : (text : List ℕ) → decrypt E nonce aad t body ≡ some text → encrypt E nonce text ≡ body
       unfolding decrypt
       encrypts-again text e =
-          ap (encrypt E nonce) (sym (given_by (same_bytes t (tag E nonce aad body)) (encrypt E nonce body) text e).1) ∙ encrypt-twice body
+          ap (encrypt E nonce) (sym (given_by (same_bytes t (tag E nonce aad body)) (encrypt E nonce body) text e).1) ∙ encrypt_twice body

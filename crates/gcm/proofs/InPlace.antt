@@ -20,9 +20,9 @@ module _ (E : List ℕ → List ℕ) (nonce aad t body u : List ℕ) (eu : u ≡
       let q : same_bytes t (tag E nonce aad body) ≡ true = rw (← eu) s in
       record { right = rw q; bytes = rw q e }
 
-  pub opened-wrong : same_bytes t u ≡ false → Opened E nonce aad t body body false
+  pub opened_wrong : same_bytes t u ≡ false → Opened E nonce aad t body body false
   unfolding decrypt
-  opened-wrong s =
+  opened_wrong s =
       let q : same_bytes t (tag E nonce aad body) ≡ false = rw (← eu) s in
       record { right = rw q; bytes = rw q }
 

@@ -1,4 +1,6 @@
 // GCM (SP 800-38D) with AES, in place. Nonces have 12 bytes and tags 16. Keys have 128 or 256 bits.
+#![tactic(auto)]
+
 mod tags;
 
 ghost use Rattle.std.specs.Prelude.{true, ◌≡◌, ◌<◌, length};

@@ -1,4 +1,6 @@
 // GHASH (SP 800-38D, 6.4).
+#![tactic(auto)]
+
 mod load;
 
 ghost use Rattle.std.specs.Prelude.{◌≡◌, ◌++◌, ℕ};

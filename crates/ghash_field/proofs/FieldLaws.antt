@@ -4,7 +4,7 @@ use Rattle.std.proofs.Common.{◌≡◌, ℕ, zero, suc, ◌+◌, ◌-◌, ◌*�
 use native.Mathlib.Nat.{zero-div}
 use lib.Bits.{bit_xor, differ, xor_zero_r, xor_self}
 use lib.Pow.{high, low, field, mod-mod-pow, split}
-use Rattle.octets.proofs.BitXor.{xor-half, xor-odd, xor_swap, xor_assoc}
+use Rattle.octets.proofs.BitXor.{xor_half, xor_odd, xor_swap, xor_assoc}
 use Rattle.ghash_field.specs.Field.{R, times_x, product, mul}
 use Rattle.ghash_field.specs.Elements.{times_power, four_bits, terms}
 
@@ -19,7 +19,7 @@ scale_xor (suc (suc x)) y v hx hy = omega arith
 times_x-xor : (a b : ℕ) → times_x (bit_xor a b) ≡ bit_xor (times_x a) (times_x b)
 unfolding times_x
 times_x-xor a b =
-    ap₂ (λ (x y : ℕ). bit_xor x (y * R)) (xor-half a b) (xor-odd a b)
+    ap₂ (λ (x y : ℕ). bit_xor x (y * R)) (xor_half a b) (xor_odd a b)
     ∙ ap (bit_xor (bit_xor (a / 2) (b / 2))) (scale_xor (a % 2) (b % 2) R (omega arith) (omega arith))
     ∙ xor_swap (a / 2) (b / 2) (a % 2 * R) (b % 2 * R)
 
@@ -47,7 +47,7 @@ product-times_x (suc k) x v =
     ap₂ bit_xor (sym (times_x-bit (x / 2 ^ k % 2) v (omega arith))) (product-times_x k x (times_x v))
     ∙ sym (times_x-xor (x / 2 ^ k % 2 * v) (product k x (times_x v)))
 
--- ---- k steps
+-- ____ k steps
 
 pub power_xor : (k a b : ℕ) → times_power k (bit_xor a b) ≡ bit_xor (times_power k a) (times_power k b)
 unfolding times_power
@@ -75,7 +75,7 @@ unfolding times_power
 product_power zero k x v = refl
 product_power (suc j) k x v = product_power j k x (times_x v) ∙ ap (times_power j) (product-times_x k x v)
 
--- ---- a product in two
+-- ____ a product in two
 
 -- the j bits above k others, and those
 cut : (j k x v : ℕ) → product (j + k) x v ≡ bit_xor (product j (x / 2 ^ k) v) (product k x (times_power j v))
@@ -113,7 +113,7 @@ product-words hi lo v h =
     ap₂ (λ (n m : ℕ). bit_xor (product 64 n v) (times_power 64 m)) (sym (high hi 64 h)) (product_low 64 64 hi lo v h (le_refl 64))
     ∙ sym (product_cut 64 64 x v)
 
--- ---- four bits
+-- ____ four bits
 
 product-none : (k v : ℕ) → product k 0 v ≡ 0
 unfolding product

@@ -8,7 +8,7 @@ use Rattle.ghash_field.specs.Field.{product, mul}
 use Rattle.ghash_field.specs.Elements.{times_power, four_bits}
 use Rattle.ghash_field.proofs.FieldLaws.{power_xor, power_add, power_turned, power_shifted, product-more, product-words}
 
--- ---- the next four bits of a word
+-- ____ the next four bits of a word
 
 -- the 4 k highest bits of x
 abbrev pub first : ℕ → ℕ → ℕ
@@ -45,7 +45,7 @@ rest_turn k x p e =
 pub rest_all : (x : ℕ) → x < 2 ^ 64 → x ≡ rest 0 x
 rest_all x h = omega arith
 
--- ---- the sum
+-- ____ the sum
 
 -- w is the sum for the 4 k highest bits of hi and lo: 64 + 4 k steps make it their product with v
 abbrev pub Summed : ℕ → ℕ → ℕ → ℕ → ℕ → Type 0
@@ -103,7 +103,7 @@ summed_all hi lo v w r h s e =
     ∙ ap₂ (λ (n m : ℕ). bit_xor (product 64 n v) (times_power 64 (product 64 m v))) (div-one hi) (div-one lo)
     ∙ product-words hi lo v h
 
--- ---- bounds
+-- ____ bounds
 
 pub next_fits : (p : ℕ) → p < 2 ^ 64 → p / 2 ^ 60 < 16
 next_fits p h = omega arith

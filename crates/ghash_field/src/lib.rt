@@ -1,5 +1,7 @@
 // Multiplication in the field of SP 800-38D, 6.3, four bits at a time, from a table of the key's sixteen products. The places that are
 // looked up depend on the elements: docs/SECURITY.md says what that means.
+#![tactic(auto)]
+
 mod terms;
 mod wide;
 

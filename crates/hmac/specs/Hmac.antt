@@ -14,9 +14,9 @@ module _ (p : Sha2) where
   opad = replicate (block_size p) 0x5c
 
   -- §4, table 1, steps 1 to 3: the key, hashed where it is longer than a block, with zeros up to a block
-  unfoldable pub keyBlock : List ℕ → List ℕ
-  keyBlock key = zero_padded (block_size p) (cond (leb (length key) (block_size p)) key (hash p key))
+  unfoldable pub key_block : List ℕ → List ℕ
+  key_block key = zero_padded (block_size p) (cond (leb (length key) (block_size p)) key (hash p key))
 
   -- §4, table 1, steps 4 to 9
   unfoldable pub hmac : List ℕ → List ℕ → List ℕ
-  hmac key text = hash p (xor (keyBlock key) opad ++ hash p (xor (keyBlock key) ipad ++ text))
+  hmac key text = hash p (xor (key_block key) opad ++ hash p (xor (key_block key) ipad ++ text))

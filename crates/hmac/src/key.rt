@@ -3,7 +3,7 @@ ghost use Rattle.std.specs.Prelude.{◌≡◌, ◌≤◌, length, replicate};
 ghost use Rattle.octets.specs.Blocks.{zero_padded};
 ghost use Rattle.octets.specs.Xor.{xor};
 ghost use Rattle.sha_2.specs.Sha256.{sha256};
-ghost use Rattle.hmac.specs.Hmac.{keyBlock};
+ghost use Rattle.hmac.specs.Hmac.{key_block};
 
 use runs::copy;
 
@@ -18,7 +18,7 @@ fn zero_padded(s: &[u8]) -> [u8; 64]
 }
 
 pub fn key_block(key: &[u8]) -> [u8; 64]
-    ensures { result ≡ keyBlock sha256 key.now }
+    ensures { result ≡ key_block sha256 key.now }
 {
     if key.len() <= 64 {
         return zero_padded(key);

@@ -1,4 +1,6 @@
 // HMAC-SHA-256 (FIPS 198-1), of a text at once and in pieces.
+#![tactic(auto)]
+
 mod key;
 
 ghost use Rattle.std.specs.Prelude.{◌≡◌, List, [], ◌++◌, ℕ};

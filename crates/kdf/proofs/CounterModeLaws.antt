@@ -38,8 +38,8 @@ module _ (n : ℕ) (l : 0 < n) (h : n ≤ 32) (key label context : List ℕ) whe
   unfolding block fixed_input to_big_endian
   of-bytes = of-first-block
 
-  pub length-derived : length (derive_sha256 n key label context) ≡ n
-  length-derived =
+  pub length_derived : length (derive_sha256 n key label context) ≡ n
+  length_derived =
       let text : List ℕ = 0 ∷ 0 ∷ 0 ∷ 1 ∷ (label ++ (0 ∷ (context ++ to_big_endian 4 (8 * n)))) in
       let k : length (hmac sha256 key text) ≡ 32 = length_hmac sha256 key text in
       ap length of-bytes ∙ length-take-le n (hmac sha256 key text) (omega arith)

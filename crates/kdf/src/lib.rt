@@ -1,4 +1,6 @@
 // Key derivation in counter mode (NIST SP 800-108, revision 1, §4.1) with HMAC-SHA-256.
+#![tactic(auto)]
+
 ghost use Rattle.std.specs.Prelude.{◌≡◌};
 ghost use Rattle.sha_2.specs.Sha256.{sha256};
 ghost use Rattle.hmac.specs.Hmac as spec;

@@ -1,4 +1,6 @@
 // The tests before keys are derived (RULES 7): the number of the first line of the table that applies, else what the later lines say.
+#![tactic(auto)]
+
 ghost use Rattle.std.specs.Prelude.{◌≡◌};
 ghost use Rattle.protocol.specs.Answer.{first_of, first_else};
 ghost use Rattle.protocol.specs.Calls.{material_tests, derivation_tests};

@@ -1,4 +1,6 @@
 // The four keys of a session, out of its key material and its chain value (RULES 7; MS-SMB2 3.1.4.2).
+#![tactic(auto)]
+
 mod place;
 
 ghost use Rattle.protocol.specs.Calls.{derivation, only_keys};

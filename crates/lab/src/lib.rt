@@ -1,4 +1,6 @@
 // What replays a lab trace (RULES 16): a record at a place of a lent file, what it does in the lab, and which line comes out.
+#![tactic(auto)]
+
 ghost use Rattle.trace_format.specs.Format.{edition_of, read_at};
 ghost use Rattle.lab_state.specs.Reading.{state_of};
 ghost use Rattle.lab.specs.Reading.{Turns};

@@ -15,8 +15,8 @@ use Rattle.protocol.specs.Answer.{Answer, done, refused, when_done, judge_after}
 use Rattle.protocol.specs.Connection.{Connection, cipher_used}
 use Rattle.protocol.specs.TransformHeader.{inner, signature_of, nonce_field, authenticated_of, session_id_of}
 use Rattle.protocol.specs.SessionTable.{Session, opening_key, record_of}
-use Rattle.protocol.specs.Transform.{plaintextUnder, opened_to}
-use Rattle.protocol.specs.Calls.{opening, Lent, message_and_table, Tests, walk_over, openTests, plaintext, tests, effect, answer, left}
+use Rattle.protocol.specs.Transform.{plaintext_under, opened_to}
+use Rattle.protocol.specs.Calls.{opening, Lent, message_and_table, Tests, walk_over, open_tests, plaintext, tests, effect, answer, left}
 use Rattle.protocol.specs.Suite.{suite}
 use Rattle.protocol.proofs.SuiteLaws.{suite_sound}
 use Rattle.protocol.proofs.Judging.{line, judge-done}
@@ -34,7 +34,7 @@ module _ (c : Connection) (m : Bytes) (t : List Session) where
   text = plaintext suite c m s
 
   text-length : (p : Bytes) → text ≡ some p → length p ≡ length (inner m)
-  unfolding plaintextUnder
+  unfolding plaintext_under
   text-length p e =
       let key = opening_key c.role s.keys in
       let n = cipher_used c in
@@ -50,15 +50,15 @@ module _ (c : Connection) (m : Bytes) (t : List Session) where
       let a = length-append (take 52 m) p in
       omega arith
 
-  pub open-length : length (left suite (opening c) (message_and_table m t)).message ≡ length m
-  unfolding tests openTests effect
-  open-length = by (answer suite (opening c) (message_and_table m t)) refl
+  pub open_length : length (left suite (opening c) (message_and_table m t)).message ≡ length m
+  unfolding tests open_tests effect
+  open_length = by (answer suite (opening c) (message_and_table m t)) refl
     where
       by : (a : Answer) → answer suite (opening c) (message_and_table m t) ≡ a
           → length (when_done a (λ n. effect suite (opening c) (message_and_table m t)) (message_and_table m t)).message ≡ length m
       by (refused n) e = refl
       by (done n) e =
-          let ts : Tests = openTests suite c m s in
+          let ts : Tests = open_tests suite c m s in
           let h = (judge-done ts.before (judge_after (walk_over ts.walked) ts.later) n e).0 in
           opened-length (leb-false (length m) 52 (line ts.before h 2)) (there_is text (not-false (is_some text) (line ts.before h 9)))
 
@@ -67,5 +67,5 @@ unfolding step_payload call_of lent_to
 payload-length k d m s = by (eqb k 2) refl
   where
     by : (b : Bool) → eqb k 2 ≡ b → length (cond b (left_by k d m s).message m) ≡ length m
-    by true q = ap (λ (x : ℕ). length (left_by x d m s).message) (eqb-true k 2 q) ∙ open-length (receiving d s) m s.table
+    by true q = ap (λ (x : ℕ). length (left_by x d m s).message) (eqb-true k 2 q) ∙ open_length (receiving d s) m s.table
     by false q = refl

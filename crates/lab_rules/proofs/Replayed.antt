@@ -39,7 +39,7 @@ same_reading e f g p b =
     (cond (readable e s) (found (kind_in (head_in s)) (from_server_in (head_in s)) (p + 4) (length_in e (head_in s)) (p + size_in e s)) unreadable))
     b.size b.rest
 
--- ---- a record
+-- ____ a record
 
 module _ (e : Edition) (f g : Bytes) (p k : ℕ) (d : Bool) (q n next : ℕ) (w : Was e f p k q n next) (b : Behind f g p) where
   same-payload : bytes_at q n g ≡ bytes_at q n f
@@ -94,7 +94,7 @@ turn_same n e f g p s i b ih (found k d q m next) t =
 turn_same n e f g p s i b ih end t = refl
 turn_same n e f g p s i b ih unreadable t = refl
 
--- ---- from place to place
+-- ____ from place to place
 
 same_turns : (n : ℕ) (e : Edition) (s : State) (f g : Bytes) (p i : ℕ) → Behind f g p → turns_from n e s g p i ≡ lines_from n e s f p i
 unfolding turns_from lines_from

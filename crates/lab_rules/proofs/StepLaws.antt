@@ -7,7 +7,7 @@ use native.Mathlib.Omega.{arith}
 use borrow.Author.Tests.{eq-eqb, ne_eqb}
 use Rattle.protocol.specs.Bytes.{Bytes}
 use Rattle.protocol.specs.Answer.{answer_number}
-use Rattle.protocol.specs.Preauth.{negotiateMessage}
+use Rattle.protocol.specs.Preauth.{negotiate_message}
 use Rattle.protocol.specs.Calls.{Call, folding, opening, adding, Lent, only_chain, only_table, message_and_table, answer, left}
 use Rattle.protocol.specs.Suite.{suite}
 use Rattle.lab_rules.specs.Steps.{State, Steps, call_of, lent_to, step_state, step_payload, setup_kind, receiving, lab_session, with_session, negotiated, joined}
@@ -20,12 +20,12 @@ abbrev pub after : Call → Lent → Lent
 after c w = left suite c w
 
 module _ (k : ℕ) (d : Bool) (m m' : Bytes) (s : State) (n : ℕ) (t : State) where
-  pub step-0 : k ≡ 0
-      → (n ≡ number (folding negotiateMessage m) (only_chain s.connection))
-      × (t ≡ negotiated (after (folding negotiateMessage m) (only_chain s.connection)).chain s)
+  pub step_0 : k ≡ 0
+      → (n ≡ number (folding negotiate_message m) (only_chain s.connection))
+      × (t ≡ negotiated (after (folding negotiate_message m) (only_chain s.connection)).chain s)
       → m' ≡ m → Steps k d m m' s n t
   unfolding call_of lent_to step_state step_payload
-  step-0 q e em = record { answers = rw (eq-eqb k 0 q) e.0; leaves = rw (eq-eqb k 0 q) e.1; bytes = rw (ne_eqb k 2 (λ z. omega arith)) em }
+  step_0 q e em = record { answers = rw (eq-eqb k 0 q) e.0; leaves = rw (eq-eqb k 0 q) e.1; bytes = rw (ne_eqb k 2 (λ z. omega arith)) em }
 
   module _ (n0 : k ≡ 0 → ⊥) where
     pub step-1 : k ≡ 1
@@ -41,12 +41,12 @@ module _ (k : ℕ) (d : Bool) (m m' : Bytes) (s : State) (n : ℕ) (t : State) w
         }
 
     module _ (n1 : k ≡ 1 → ⊥) where
-      pub step-2 : k ≡ 2
+      pub step_2 : k ≡ 2
           → (n ≡ number (opening (receiving d s)) (message_and_table m s.table))
           × (m' ≡ (after (opening (receiving d s)) (message_and_table m s.table)).message)
           → t ≡ s → Steps k d m m' s n t
       unfolding call_of lent_to step_state step_payload
-      step-2 q e et =
+      step_2 q e et =
           record {
             answers = rw (ne_eqb k 0 n0, ne_eqb k 1 n1, eq-eqb k 2 q) e.0;
             leaves = rw (ne_eqb k 0 n0, ne_eqb k 1 n1, eq-eqb k 2 q) et;

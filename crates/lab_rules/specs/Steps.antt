@@ -5,7 +5,7 @@ use Rattle.octets.specs.Numbers.{bytes_at, big_endian}
 use Rattle.protocol.specs.Bytes.{Bytes}
 use Rattle.protocol.specs.Answer.{answer_number}
 use Rattle.protocol.specs.Connection.{Role, client, server, Connection}
-use Rattle.protocol.specs.Preauth.{FoldKind, negotiateMessage, setupRequest, setupResponse, fresh_chain}
+use Rattle.protocol.specs.Preauth.{FoldKind, negotiate_message, setup_request, setup_response, fresh_chain}
 use Rattle.protocol.specs.SessionTable.{Session, Adding, free_record}
 use Rattle.protocol.specs.Calls.{Call, folding, opening, adding, Lent, only_chain, only_table, message_and_table, answer, left}
 use Rattle.protocol.specs.Suite.{suite}
@@ -22,12 +22,12 @@ pub record State : Type 0 where
 abbrev pub fresh_state : ℕ → ℕ → State
 fresh_state d c = record { dialect = d; cipher = c; connection = fresh_chain; session = fresh_chain; table = replicate 16 free_record }
 
--- ---- the call that a record makes
+-- ____ the call that a record makes
 
 -- "0 folds on the connection, 1 on the session chain": a setup response is from the server
 abbrev pub setup_kind : Bool → FoldKind
-setup_kind true = setupResponse
-setup_kind false = setupRequest
+setup_kind true = setup_response
+setup_kind false = setup_request
 
 -- "2 is opened by its receiver (encryption on, no constraint)"
 abbrev pub receiver : Bool → Role
@@ -53,7 +53,7 @@ lab_session m s =
 -- of a record's kind, whether it is from the server, and its payload m
 unfoldable pub call_of : ℕ → Bool → Bytes → State → Call
 call_of kind d m s =
-    cond (eqb kind 0) (folding negotiateMessage m)
+    cond (eqb kind 0) (folding negotiate_message m)
     (cond (eqb kind 1) (folding (setup_kind d) m)
     (cond (eqb kind 2) (opening (receiving d s))
     (adding (lab_session m s))))
@@ -66,7 +66,7 @@ lent_to kind m s =
     (cond (eqb kind 2) (message_and_table m s.table)
     (only_table s.table)))
 
--- ---- what it answers, and what is there afterwards
+-- ____ what it answers, and what is there afterwards
 
 abbrev pub step_number : ℕ → Bool → Bytes → State → ℕ
 step_number kind d m s = answer_number (answer suite (call_of kind d m s) (lent_to kind m s))

@@ -1,4 +1,6 @@
 // The lab that a trace is replayed in (RULES 16): two chains and a table of sixteen sessions.
+#![tactic(auto)]
+
 ghost use Rattle.std.specs.Prelude.{◌≡◌};
 ghost use Rattle.connection.specs.Reading.{connection_of};
 ghost use Rattle.lab_rules.specs.Steps.{fresh_state, receiving, with_session};

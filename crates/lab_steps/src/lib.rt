@@ -1,7 +1,9 @@
 // What a record of each kind does in the lab (RULES 16).
+#![tactic(auto)]
+
 ghost use Rattle.std.specs.Prelude.{◌≡◌, ◌≤◌, length};
 ghost use Rattle.protocol.specs.Answer.{answer_number};
-ghost use Rattle.protocol.specs.Preauth.{negotiateMessage};
+ghost use Rattle.protocol.specs.Preauth.{negotiate_message};
 ghost use Rattle.protocol.specs.Calls.{folding, opening, adding, only_chain, only_table, message_and_table, answer, left};
 ghost use Rattle.protocol.specs.Suite.{suite};
 ghost use Rattle.lab_rules.specs.Steps.{Steps, setup_kind, receiving, lab_session, with_session, negotiated, joined};
@@ -20,8 +22,8 @@ pub struct Stepped {
 
 // Kind 0: folded on the connection, and the session chain is the connection's.
 fn negotiate(from: Lab, message: &[u8]) -> Stepped
-    ensures { (result.number ≡ answer_number (answer suite (folding negotiateMessage message.now) (only_chain from.connection)))
-        × (state_of result.lab ≡ negotiated (left suite (folding negotiateMessage message.now) (only_chain from.connection)).chain (state_of from)) }
+    ensures { (result.number ≡ answer_number (answer suite (folding negotiate_message message.now) (only_chain from.connection)))
+        × (state_of result.lab ≡ negotiated (left suite (folding negotiate_message message.now) (only_chain from.connection)).chain (state_of from)) }
 {
     let mut chain = from.connection;
     let table = from.table;

@@ -1,4 +1,6 @@
 // The limits on lengths and on the counter (RULES 2: 3, 17, 19 and 23).
+#![tactic(auto)]
+
 ghost use Rattle.std.specs.Prelude.{◌≡◌, ◌+◌, leb};
 ghost use Rattle.protocol.specs.Connection.{longest_message, longest_material, last_counter};
 

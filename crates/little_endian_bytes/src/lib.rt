@@ -1,4 +1,6 @@
 // Numbers as bytes, the lowest byte first.
+#![tactic(auto)]
+
 ghost use Rattle.std.specs.Prelude.{◌≡◌};
 ghost use Rattle.octets.specs.Numbers.{to_little_endian};
 

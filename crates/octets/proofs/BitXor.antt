@@ -33,11 +33,11 @@ module _ (a b : ℕ) where
   low : differ (a % 2) (b % 2) < 2
   low = differ_lt (a % 2) (b % 2) (omega arith) (omega arith)
 
-  pub xor-half : bit_xor a b / 2 ≡ bit_xor (a / 2) (b / 2)
-  xor-half = ap (λ (n : ℕ). n / 2) (xor_step a b) ∙ half_of (bit_xor (a / 2) (b / 2)) (differ (a % 2) (b % 2)) low
+  pub xor_half : bit_xor a b / 2 ≡ bit_xor (a / 2) (b / 2)
+  xor_half = ap (λ (n : ℕ). n / 2) (xor_step a b) ∙ half_of (bit_xor (a / 2) (b / 2)) (differ (a % 2) (b % 2)) low
 
-  pub xor-odd : bit_xor a b % 2 ≡ differ (a % 2) (b % 2)
-  xor-odd = ap (λ (n : ℕ). n % 2) (xor_step a b) ∙ odd_of (bit_xor (a / 2) (b / 2)) (differ (a % 2) (b % 2)) low
+  pub xor_odd : bit_xor a b % 2 ≡ differ (a % 2) (b % 2)
+  xor_odd = ap (λ (n : ℕ). n % 2) (xor_step a b) ∙ odd_of (bit_xor (a / 2) (b / 2)) (differ (a % 2) (b % 2)) low
 
 pub xor_assoc : (a b c : ℕ) → bit_xor (bit_xor a b) c ≡ bit_xor a (bit_xor b c)
 xor_assoc =
@@ -45,9 +45,9 @@ xor_assoc =
     (λ b c. refl)
     (λ a ih b c.
     xor_step (bit_xor a b) c
-    ∙ ap₂ (λ (x y : ℕ). bit_xor x (c / 2) * 2 + differ y (c % 2)) (xor-half a b) (xor-odd a b)
+    ∙ ap₂ (λ (x y : ℕ). bit_xor x (c / 2) * 2 + differ y (c % 2)) (xor_half a b) (xor_odd a b)
     ∙ ap₂ (λ (x y : ℕ). x * 2 + y) (ih (b / 2) (c / 2)) (differ_assoc (a % 2) (b % 2) (c % 2) (omega arith) (omega arith) (omega arith))
-    ∙ sym (xor_step a (bit_xor b c) ∙ ap₂ (λ (x y : ℕ). bit_xor (a / 2) x * 2 + differ (a % 2) y) (xor-half b c) (xor-odd b c)))
+    ∙ sym (xor_step a (bit_xor b c) ∙ ap₂ (λ (x y : ℕ). bit_xor (a / 2) x * 2 + differ (a % 2) y) (xor_half b c) (xor_odd b c)))
 
 -- twice the same
 pub xor_undo : (a b : ℕ) → bit_xor (bit_xor a b) b ≡ a

@@ -56,7 +56,7 @@ block_turn at len m k l em =
     let n = block-next at len m k l em in
     (omega arith, omega arith)
 
--- ---- blocks of joined and of padded strings
+-- ____ blocks of joined and of padded strings
 
 zero_padded-take : (n : ℕ) (xs ys : List ℕ) → n ≤ length xs → zero_padded n (xs ++ ys) ≡ zero_padded n xs
 unfolding zero_padded
@@ -100,16 +100,16 @@ block-padded xs n k l =
     ∙ ap (zero_padded 16) (drop-zero_padded (16 * k) (16 * n - 16 * k) xs)
     ∙ zero_padded_prefix 16 (16 * n - 16 * k) (drop (16 * k) xs) (omega arith)
 
--- ---- chains over blocks
+-- ____ chains over blocks
 
 module _ {A : Type 0} (f : A → List ℕ → A) where
   -- a turn of a loop: the block at `at`, and m bytes on
-  pub over-turn : (y : A) (s : List ℕ) (at m : ℕ) (z r : A) → AtBlock at (length s) → at < length s → m ≡ min (length s - at) 16
+  pub over_turn : (y : A) (s : List ℕ) (at m : ℕ) (z r : A) → AtBlock at (length s) → at < length s → m ≡ min (length s - at) 16
       → z ≡ over_blocks f y s (block_count at)
       → r ≡ f z (zero_padded 16 (drop at s))
       → r ≡ over_blocks f y s (block_count (at + m))
   unfolding over_blocks
-  over-turn y s at m z r k l em ez er =
+  over_turn y s at m z r k l em ez er =
       er ∙ ap₂ (λ (a : A) (b : ℕ). f a (zero_padded 16 (drop b s))) ez (block_here at (length s) k l)
       ∙ ap (over_blocks f y s) (sym (block-next at (length s) m k l em ∙ add-one (block_count at)))
 

@@ -12,24 +12,24 @@ use Rattle.octets.specs.Xor.{xor_with, xor}
 use Rattle.octets.proofs.BitXor.{xor_assoc, xor_undo}
 
 module _ (f : ℕ → ℕ) where
-  pub length-xorWith : (i : ℕ) (xs : List ℕ) → length (xor_with f i xs) ≡ length xs
+  pub length-xor_with : (i : ℕ) (xs : List ℕ) → length (xor_with f i xs) ≡ length xs
   unfolding xor_with
-  length-xorWith i [] = refl
-  length-xorWith i (x ∷ xs) = ap suc (length-xorWith (suc i) xs)
+  length-xor_with i [] = refl
+  length-xor_with i (x ∷ xs) = ap suc (length-xor_with (suc i) xs)
 
-  pub getD-xorWith : (i : ℕ) (xs : List ℕ) (j : ℕ) → j < length xs → get_or (xor_with f i xs) j 0 ≡ bit_xor (get_or xs j 0) (f (i + j))
+  pub get_or-xor_with : (i : ℕ) (xs : List ℕ) (j : ℕ) → j < length xs → get_or (xor_with f i xs) j 0 ≡ bit_xor (get_or xs j 0) (f (i + j))
   unfolding xor_with
-  getD-xorWith i [] j h = absurd (not-suc-le-zero h)
-  getD-xorWith i (x ∷ xs) zero h = ap (λ (k : ℕ). bit_xor x (f k)) (sym (add-zero i))
-  getD-xorWith i (x ∷ xs) (suc j) h =
+  get_or-xor_with i [] j h = absurd (not-suc-le-zero h)
+  get_or-xor_with i (x ∷ xs) zero h = ap (λ (k : ℕ). bit_xor x (f k)) (sym (add-zero i))
+  get_or-xor_with i (x ∷ xs) (suc j) h =
       let e : suc i + j ≡ i + suc j = omega arith in
-      getD-xorWith (suc i) xs j (le_of_suc-le-suc h) ∙ ap (λ (k : ℕ). bit_xor (get_or xs j 0) (f k)) e
+      get_or-xor_with (suc i) xs j (le_of_suc-le-suc h) ∙ ap (λ (k : ℕ). bit_xor (get_or xs j 0) (f k)) e
 
   -- applied twice it gives the list back
-  pub xorWith-twice : (i : ℕ) (xs : List ℕ) → xor_with f i (xor_with f i xs) ≡ xs
+  pub xor_with_twice : (i : ℕ) (xs : List ℕ) → xor_with f i (xor_with f i xs) ≡ xs
   unfolding xor_with
-  xorWith-twice i [] = refl
-  xorWith-twice i (x ∷ xs) = ap₂ (λ (y : ℕ) (ys : List ℕ). y ∷ ys) (xor_undo x (f i)) (xorWith-twice (suc i) xs)
+  xor_with_twice i [] = refl
+  xor_with_twice i (x ∷ xs) = ap₂ (λ (y : ℕ) (ys : List ℕ). y ∷ ys) (xor_undo x (f i)) (xor_with_twice (suc i) xs)
 
 pub drop-xor_with : (f : ℕ → ℕ) (i : ℕ) (xs : List ℕ) (n : ℕ) → drop n (xor_with f i xs) ≡ xor_with f (i + n) (drop n xs)
 unfolding xor_with
@@ -62,24 +62,24 @@ unfolding xor_with
 both_xor_with f g i [] = refl
 both_xor_with f g i (x ∷ xs) = ap₂ (λ (y : ℕ) (ys : List ℕ). y ∷ ys) (xor_assoc x (f i) (g i)) (both_xor_with f g (suc i) xs)
 
--- ---- byte strings
+-- ____ byte strings
 
 pub length-xor : (xs ys : List ℕ) → length (xor xs ys) ≡ length xs
-length-xor xs ys = length-xorWith (λ i. get_or ys i 0) 0 xs
+length-xor xs ys = length-xor_with (λ i. get_or ys i 0) 0 xs
 
 pub xor_twice : (xs ys : List ℕ) → xor (xor xs ys) ys ≡ xs
-xor_twice xs ys = xorWith-twice (λ i. get_or ys i 0) 0 xs
+xor_twice xs ys = xor_with_twice (λ i. get_or ys i 0) 0 xs
 
-pub xor-bytes_assoc : (xs ys zs : List ℕ) → length xs ≤ length ys → xor (xor xs ys) zs ≡ xor xs (xor ys zs)
-xor-bytes_assoc xs ys zs h =
+pub xor_bytes_assoc : (xs ys zs : List ℕ) → length xs ≤ length ys → xor (xor xs ys) zs ≡ xor xs (xor ys zs)
+xor_bytes_assoc xs ys zs h =
     let f : ℕ → ℕ = λ i. bit_xor (get_or ys i 0) (get_or zs i 0) in
     let g : ℕ → ℕ = λ i. get_or (xor ys zs) i 0 in
     let n = length xs in
     let agree : (j : ℕ) → j < n → f (0 + j) ≡ g (0 + j) =
     λ j l.
     let b : 0 + j < length ys = omega arith in
-    sym (getD-xorWith (λ i. get_or zs i 0) 0 ys (0 + j) b ∙ ap (λ (i : ℕ). bit_xor (get_or ys (0 + j) 0) (get_or zs i 0)) (zero-add (0 + j))) in
+    sym (get_or-xor_with (λ i. get_or zs i 0) 0 ys (0 + j) b ∙ ap (λ (i : ℕ). bit_xor (get_or ys (0 + j) 0) (get_or zs i 0)) (zero-add (0 + j))) in
     both_xor_with (λ i. get_or ys i 0) (λ i. get_or zs i 0) 0 xs
-    ∙ sym (take_all n (xor_with f 0 xs) (le_of_eq (length-xorWith f 0 xs)))
+    ∙ sym (take_all n (xor_with f 0 xs) (le_of_eq (length-xor_with f 0 xs)))
     ∙ take-xor_with f g 0 0 xs n agree
-    ∙ take_all n (xor_with g 0 xs) (le_of_eq (length-xorWith g 0 xs))
+    ∙ take_all n (xor_with g 0 xs) (le_of_eq (length-xor_with g 0 xs))

@@ -17,7 +17,7 @@ use Rattle.protocol.specs.Refusals.{fold_length}
 use Rattle.protocol.specs.Calls.{Call, folding, Lent, only_chain, chain_tests, fold_tests, tests, effect, answer}
 use Rattle.protocol.specs.Contract.{Makes}
 use Rattle.protocol.specs.Suite.{suite, sha512}
-use Rattle.protocol.proofs.CallLaws.{lines-refused, lines-done, makes-refused, makes-done}
+use Rattle.protocol.proofs.CallLaws.{lines-refused, lines-done, makes_refused, makes_done}
 use Rattle.answer.specs.Reading.{marked}
 
 -- a call that folds the message m into the chain value that it is lent
@@ -29,13 +29,13 @@ module _ (call : Call) (w : Lent) (kind : FoldKind) (m : Bytes) (alone : tests s
   answered : (n : ℕ) → n ≡ first_of lines → (n ≡ 0 → ⊥) → refused n ≡ answer suite call w
   answered n s h = sym (lines-refused call w lines (fold_mark kind m) n alone s h)
 
-  pub refused-40 : (length w.chain ≡ 64 → ⊥) → Makes call w (refused 40) w
-  refused-40 h = makes-refused call w (refused 40) (answered 40 (rw (ne_eqb (length w.chain) 64 h)) (λ e. absurd (omega arith))) refl
+  pub refused_40 : (length w.chain ≡ 64 → ⊥) → Makes call w (refused 40) w
+  refused_40 h = makes_refused call w (refused 40) (answered 40 (rw (ne_eqb (length w.chain) 64 h)) (λ e. absurd (omega arith))) refl
 
   module _ (size : length w.chain ≡ 64) where
-    pub refused-23 : admitted m ≡ false → Makes call w (refused 23) w
-    refused-23 a =
-        makes-refused call w (refused 23) (answered 23 (rw (eq-eqb (length w.chain) 64 size, a)) (λ e. absurd (omega arith))) refl
+    pub refused_23 : admitted m ≡ false → Makes call w (refused 23) w
+    refused_23 a =
+        makes_refused call w (refused 23) (answered 23 (rw (eq-eqb (length w.chain) 64 size, a)) (λ e. absurd (omega arith))) refl
 
     module _ (a : admitted m ≡ true) where
       passed : done (fold_mark kind m) ≡ answer suite call w
@@ -44,12 +44,12 @@ module _ (call : Call) (w : Lent) (kind : FoldKind) (m : Bytes) (alone : tests s
       pub left_out : status_allows kind m ≡ false → w ≡ effect suite call w → Makes call w (done 0) w
       left_out b e =
           let says : done 0 ≡ answer suite call w = ap (λ (x : Bool). done (cond x 1 0)) (sym b) ∙ passed in
-          makes-done call w (done 0) says refl w e
+          makes_done call w (done 0) says refl w e
 
       pub folded_in : (after : Lent) → status_allows kind m ≡ true → after ≡ effect suite call w → Makes call w (done 1) after
       folded_in after b e =
           let says : done 1 ≡ answer suite call w = ap (λ (x : Bool). done (cond x 1 0)) (sym b) ∙ passed in
-          makes-done call w (done 1) says refl after e
+          makes_done call w (done 1) says refl after e
 
 -- what a fold carries is a mark already
 pub mark-carried : (ts : List Test) (b : Bool) (h : ℕ) → marked (judge ts (done (cond b 1 0))) h ≡ carried (judge ts (done (cond b 1 0))) h
@@ -60,21 +60,21 @@ mark-carried ((refuse n when false) ∷ ts) b h = mark-carried ts b h
 
 -- a fold of the whole message
 module _ (kind : FoldKind) (v m : Bytes) where
-  pub fold-tests : tests suite (folding kind m) (only_chain v) ≡ fold_tests kind v m
+  pub fold_tests_lem : tests suite (folding kind m) (only_chain v) ≡ fold_tests kind v m
   unfolding tests
-  fold-tests = refl
+  fold_tests_lem = refl
 
-  pub fold-mark : (h : ℕ) → marked (answer suite (folding kind m) (only_chain v)) h ≡ carried (answer suite (folding kind m) (only_chain v)) h
+  pub fold_mark_lem : (h : ℕ) → marked (answer suite (folding kind m) (only_chain v)) h ≡ carried (answer suite (folding kind m) (only_chain v)) h
   unfolding tests
-  fold-mark h = mark-carried (chain_tests v ++ (fold_length (admitted m) ∷ [])) (status_allows kind m) h
+  fold_mark_lem h = mark-carried (chain_tests v ++ (fold_length (admitted m) ∷ [])) (status_allows kind m) h
 
-  pub fold-leaves : status_allows kind m ≡ false → only_chain v ≡ effect suite (folding kind m) (only_chain v)
+  pub fold_leaves : status_allows kind m ≡ false → only_chain v ≡ effect suite (folding kind m) (only_chain v)
   unfolding effect
-  fold-leaves b = rw b
+  fold_leaves b = rw b
 
-  pub fold-puts : (after : Bytes) → status_allows kind m ≡ true → after ≡ sha512 (v ++ m) → only_chain after ≡ effect suite (folding kind m) (only_chain v)
+  pub fold_puts : (after : Bytes) → status_allows kind m ≡ true → after ≡ sha512 (v ++ m) → only_chain after ≡ effect suite (folding kind m) (only_chain v)
   unfolding effect
-  fold-puts after b e = rw (b, e)
+  fold_puts after b e = rw (b, e)
 
 -- what 23 admits
 pub limits : (m : Bytes) → admitted m ≡ true → (64 ≤ length m) × (length m ≤ longest_message)

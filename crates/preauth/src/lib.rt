@@ -1,7 +1,9 @@
 // The preauthentication integrity hash: messages folded into a chain value (RULES 8).
+#![tactic(auto)]
+
 ghost use Rattle.std.specs.Prelude.{◌≡◌, true, ◌&&◌, ◌++◌, ◌≤◌, leb, length};
 ghost use Rattle.protocol.specs.Connection.{longest_message};
-ghost use Rattle.protocol.specs.Preauth.{FoldKind, negotiateMessage, setupRequest, setupResponse, admits_length, admitted, more_processing, status_allows};
+ghost use Rattle.protocol.specs.Preauth.{FoldKind, negotiate_message, setup_request, setup_response, admits_length, admitted, more_processing, status_allows};
 ghost use Rattle.protocol.specs.Calls.{folding, only_chain};
 ghost use Rattle.protocol.specs.Contract.{Makes};
 ghost use Rattle.protocol.specs.Suite.{sha512};
@@ -62,15 +64,15 @@ fn fold_if(chain: &mut [u8], message: &[u8], allowed: bool) -> Answer
 
 // A negotiate message or a session setup request: always folded.
 pub fn fold(chain: &mut [u8], message: &[u8]) -> Answer
-    ensures { Makes (folding negotiateMessage message.now) (only_chain chain.old) (answer_of result) (only_chain chain.new)
-        × Makes (folding setupRequest message.now) (only_chain chain.old) (answer_of result) (only_chain chain.new) }
+    ensures { Makes (folding negotiate_message message.now) (only_chain chain.old) (answer_of result) (only_chain chain.new)
+        × Makes (folding setup_request message.now) (only_chain chain.old) (answer_of result) (only_chain chain.new) }
 {
     fold_if(chain, message, true)
 }
 
 // A session setup response: folded only if its status asks for more.
 pub fn fold_response(chain: &mut [u8], message: &[u8]) -> Answer
-    ensures { Makes (folding setupResponse message.now) (only_chain chain.old) (answer_of result) (only_chain chain.new) }
+    ensures { Makes (folding setup_response message.now) (only_chain chain.old) (answer_of result) (only_chain chain.new) }
 {
     fold_if(chain, message, asks_for_more(message))
 }

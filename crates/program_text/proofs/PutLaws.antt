@@ -63,7 +63,7 @@ pub put-nothing : (ok : Bool) (text : Bytes) (at : ℕ) → PutIf ok [] text at 
 put-nothing true text at = record { place = omega arith; bytes = paste-zero text at [] }
 put-nothing false text at = record { place = refl; bytes = refl }
 
--- ---- room
+-- ____ room
 
 pub room_not : (text : Bytes) (at : ℕ) → length text < 42 → false ≡ roomy text at
 room_not text at h = sym (lt-leb (at + 42) (length text) (omega arith))
@@ -85,7 +85,7 @@ failed e t = sym e ∙ not-true _ t
 pub room_le : (text : Bytes) (at : ℕ) → roomy text at ≡ true → at + 42 ≤ length text
 room_le text at e = leb-true (at + 42) (length text) e
 
--- ---- gaps
+-- ____ gaps
 
 by_42 : (n g : ℕ) → leb g (n / 42) ≡ leb (42 * g) n
 by_42 n g = by (leb g (n / 42)) refl

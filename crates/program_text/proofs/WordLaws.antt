@@ -22,20 +22,20 @@ pub compared : (r : Bool) (a b : Bytes) → (r ≡ true → a ≡ b) × (a ≡ b
 compared r a b e =
     decided r (same_bytes a b) (λ t. ap (λ (x : Bytes). same_bytes x b) (e.0 t) ∙ same_self b) (λ t. e.1 (same_equal a b t))
 
--- ---- the last slash
+-- ____ the last slash
 
 from : (a : Bytes) (i : ℕ) → i < length a → drop i a ≡ get_or a i 0 ∷ drop (i + 1) a
 from a i h = drop-cons a i 0 h ∙ ap (λ (k : ℕ). get_or a i 0 ∷ drop k a) (sym (add-one i))
 
 module _ (path : Bytes) (found i : ℕ) where
-  pub slash-turn : {r : ℕ} → i < length path → r ≡ cond (eqb (get_or path i 0) 47) (i + 1) found
+  pub slash_turn : {r : ℕ} → i < length path → r ≡ cond (eqb (get_or path i 0) 47) (i + 1) found
       → last_slash r (i + 1) (drop (i + 1) path) ≡ last_slash found i (drop i path)
   unfolding last_slash
-  slash-turn h e = ap (λ (x : ℕ). last_slash x (i + 1) (drop (i + 1) path)) e ∙ sym (ap (last_slash found i) (from path i h))
+  slash_turn h e = ap (λ (x : ℕ). last_slash x (i + 1) (drop (i + 1) path)) e ∙ sym (ap (last_slash found i) (from path i h))
 
-  pub slash-end : length path ≤ i → last_slash found i (drop i path) ≡ found
+  pub slash_end : length path ≤ i → last_slash found i (drop i path) ≡ found
   unfolding last_slash
-  slash-end h = ap (last_slash found i) (drop_of_length-le path h)
+  slash_end h = ap (last_slash found i) (drop_of_length-le path h)
 
 slash_most : (xs : Bytes) (found i : ℕ) → found ≤ i → last_slash found i xs ≤ i + length xs
 unfolding last_slash
@@ -54,23 +54,23 @@ pub length-beside : (path : Bytes) → length (beside path) ≡ folder_in path +
 unfolding beside
 length-beside path = length-append (take (folder_in path) path) template ∙ (let l = length-take-le (folder_in path) path (folder_le path) in omega arith)
 
--- ---- the name
+-- ____ the name
 
 module _ {path room : Bytes} {n : ℕ} (e : n ≡ folder_in path) where
-  pub name-small : length room < 15 → PutName path room (length room) room
-  name-small h = let f = lt-leb (folder_in path + 15) (length room) (omega arith) in record { place = rw f refl; bytes = rw f refl }
+  pub name_small : length room < 15 → PutName path room (length room) room
+  name_small h = let f = lt-leb (folder_in path + 15) (length room) (omega arith) in record { place = rw f refl; bytes = rw f refl }
 
-  pub name-not : 15 ≤ length room → length room - 15 < n → PutName path room (length room) room
-  name-not h i = let f = lt-leb (folder_in path + 15) (length room) (omega arith) in record { place = rw f refl; bytes = rw f refl }
+  pub name_not : 15 ≤ length room → length room - 15 < n → PutName path room (length room) room
+  name_not h i = let f = lt-leb (folder_in path + 15) (length room) (omega arith) in record { place = rw f refl; bytes = rw f refl }
 
-  pub name-put : {room' : Bytes} {r : ℕ} → 15 ≤ length room → n ≤ length room - 15 → Put (take n path ++ template) room 0 r room' → PutName path room r room'
+  pub name_put : {room' : Bytes} {r : ℕ} → 15 ≤ length room → n ≤ length room - 15 → Put (take n path ++ template) room 0 r room' → PutName path room r room'
   unfolding beside
-  name-put {room'} {r} h i p =
+  name_put {room'} {r} h i p =
       let f = le-leb (folder_in path + 15) (length room) (omega arith) in
       let q : Put (take (folder_in path) path ++ template) room 0 r room' = subst (λ (k : ℕ). Put (take k path ++ template) room 0 r room') e p in
       record { place = rw f (q.place ∙ omega arith); bytes = rw f q.bytes }
 
--- ---- how many bytes of a room are meant
+-- ____ how many bytes of a room are meant
 
 pub whole_counts : (room : Bytes) → IsPrefixLen (length room) room
 whole_counts room = (omega arith, sym (ap length (take-length room)))

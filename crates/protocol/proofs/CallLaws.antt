@@ -20,14 +20,14 @@ pub verdict-walk : (t : Tests) (m : Bytes) (e : Envelope) → t.walked ≡ over 
 verdict-walk t m e w l = rw (w, l) (ap (judge t.before) (after_nothing (walk m e)))
 
 module _ (c : Call) (w : Lent) (a : Answer) (e : a ≡ answer suite c w) where
-  pub makes-when : (w' : Lent) → w' ≡ when_done a (λ n. effect suite c w) w → Makes c w a w'
-  makes-when w' b = record { answers = e; leaves = b ∙ ap (λ (x : Answer). when_done x (λ n. effect suite c w) w) e }
+  pub makes_when : (w' : Lent) → w' ≡ when_done a (λ n. effect suite c w) w → Makes c w a w'
+  makes_when w' b = record { answers = e; leaves = b ∙ ap (λ (x : Answer). when_done x (λ n. effect suite c w) w) e }
 
-  pub makes-refused : is_refused a ≡ true → Makes c w a w
-  makes-refused r = makes-when w (sym (when_refused a (effect suite c w) w r))
+  pub makes_refused : is_refused a ≡ true → Makes c w a w
+  makes_refused r = makes_when w (sym (when_refused a (effect suite c w) w r))
 
-  pub makes-done : is_refused a ≡ false → (w' : Lent) → w' ≡ effect suite c w → Makes c w a w'
-  makes-done r w' b = makes-when w' (b ∙ sym (when_done_lem a (effect suite c w) w r))
+  pub makes_done : is_refused a ≡ false → (w' : Lent) → w' ≡ effect suite c w → Makes c w a w'
+  makes_done r w' b = makes_when w' (b ∙ sym (when_done_lem a (effect suite c w) w r))
 
 -- the number of the answer
 pub returns_of : {c : Call} {w w' : Lent} {a : Answer} → Makes c w a w' → Returns c w (answer_number a) w'
@@ -39,7 +39,7 @@ number-lines [] k = refl
 number-lines ((refuse n when true) ∷ ts) k = refl
 number-lines ((refuse n when false) ∷ ts) k = number-lines ts k
 
--- ---- what is left, once the answer is known
+-- ____ what is left, once the answer is known
 
 module _ (c : Call) (w : Lent) where
   pub left-refused : (n : ℕ) → answer suite c w ≡ refused n → left suite c w ≡ w
@@ -56,11 +56,11 @@ module _ (c : Call) (w : Lent) where
     pub lines-done : positive ts ≡ true → n ≡ 0 → answer suite c w ≡ done k
     lines-done p z = ap verdict alone ∙ judge-passed ts (done k) (passes ts n p s z)
 
-    pub lines-return : (n ≡ 0 → ⊥) → Returns c w n w
-    lines-return h = record { number = sym (ap answer_number (lines-refused h)); leaves = sym (left-refused n (lines-refused h)) }
+    pub lines_return : (n ≡ 0 → ⊥) → Returns c w n w
+    lines_return h = record { number = sym (ap answer_number (lines-refused h)); leaves = sym (left-refused n (lines-refused h)) }
 
-    pub lines-return-done : positive ts ≡ true → n ≡ 0 → (w' : Lent) → w' ≡ effect suite c w → Returns c w n w'
-    lines-return-done p z w' e = record { number = z ∙ sym (ap answer_number (lines-done p z)); leaves = e ∙ sym (left-done k (lines-done p z)) }
+    pub lines_return_done : positive ts ≡ true → n ≡ 0 → (w' : Lent) → w' ≡ effect suite c w → Returns c w n w'
+    lines_return_done p z w' e = record { number = z ∙ sym (ap answer_number (lines-done p z)); leaves = e ∙ sym (left-done k (lines-done p z)) }
 
 -- the counter step by itself, as the function over the table says it
 pub step_left : (i by : ℕ) (t : List Session) → left suite (stepping i by) (only_table t) ≡ only_table (change_record (counter_step by) i t)

@@ -15,9 +15,9 @@ use Rattle.protocol.specs.TransformHeader.{inner, session_id_of, header_of}
 use Rattle.protocol.specs.Compound.{walk}
 use Rattle.protocol.specs.Refusals.{other_session, counter_used_up}
 use Rattle.protocol.specs.SessionTable.{Session, sealing_key, opening_key}
-use Rattle.protocol.specs.Transform.{Primitives, plaintextUnder}
+use Rattle.protocol.specs.Transform.{Primitives, plaintext_under}
 use Rattle.protocol.specs.Calls.{sealing_under, opening_under, only_message, message_and_counter, key_tests, message_tests, header_tests, record_tests}
-use Rattle.protocol.specs.Calls.{sent_by, text_tests, sealTests, openTests, verdict, tests, answer}
+use Rattle.protocol.specs.Calls.{sent_by, text_tests, seal_tests, open_tests, verdict, tests, answer}
 use Rattle.protocol.proofs.Judging.{judge-passed, judge-append}
 
 module _ (P : Primitives) (c : Connection) (s : Session) (known : s.used ≡ true) (free : c.constrained ≡ false)
@@ -29,10 +29,10 @@ module _ (P : Primitives) (c : Connection) (s : Session) (known : s.used ≡ tru
   key_passes key l x = judge-passed (key_tests c key) x (ap not (eq-eqb (length key) _ (l ∙ size)), tt)
 
   -- a seal with the table is a seal under the record's key and counter
-  pub seal-by-key : (id : ℕ) (m : Bytes) → length (sealing_key c.role s.keys) ≡ cipher_key_bytes s.wide
-      → verdict (sealTests P c m s id) ≡ answer P (sealing_under c (sealing_key c.role s.keys) id) (message_and_counter m s.counter)
-  unfolding sealTests tests
-  seal-by-key id m l =
+  pub seal_by_key : (id : ℕ) (m : Bytes) → length (sealing_key c.role s.keys) ≡ cipher_key_bytes s.wide
+      → verdict (seal_tests P c m s id) ≡ answer P (sealing_under c (sealing_key c.role s.keys) id) (message_and_counter m s.counter)
+  unfolding seal_tests tests
+  seal_by_key id m l =
       judge-append (message_tests c m) (record_tests c s) after
       ∙ ap (judge (message_tests c m)) (record_passes after)
       ∙ sym (judge-append (key_tests c key) (message_tests c m) after ∙ key_passes key l (judge (message_tests c m) after))
@@ -44,10 +44,10 @@ module _ (P : Primitives) (c : Connection) (s : Session) (known : s.used ≡ tru
       after = judge_after (walk (inner m) (sent_by c.role id)) (counter_used_up s.counter ∷ [])
 
   -- an opening with the table is an opening under the record's key for the id that the header names
-  pub open-by-key : (m : Bytes) → length (opening_key c.role s.keys) ≡ cipher_key_bytes s.wide
-      → verdict (openTests P c m s) ≡ answer P (opening_under c (opening_key c.role s.keys) (session_id_of m)) (only_message m)
-  unfolding openTests tests
-  open-by-key m l =
+  pub open_by_key : (m : Bytes) → length (opening_key c.role s.keys) ≡ cipher_key_bytes s.wide
+      → verdict (open_tests P c m s) ≡ answer P (opening_under c (opening_key c.role s.keys) (session_id_of m)) (only_message m)
+  unfolding open_tests tests
+  open_by_key m l =
       judge-append front (record_tests c s ++ last) w
       ∙ ap (judge front) (judge-append (record_tests c s) last w ∙ record_passes (judge last w))
       ∙ sym (
@@ -60,7 +60,7 @@ module _ (P : Primitives) (c : Connection) (s : Session) (known : s.used ≡ tru
       key = opening_key c.role s.keys
 
       text : Option Bytes
-      text = plaintextUnder P.ciphers (cipher_used c) key m
+      text = plaintext_under P.ciphers (cipher_used c) key m
 
       front : List Test
       front = message_tests c m ++ header_tests c (header_of m)

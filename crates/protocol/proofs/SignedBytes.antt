@@ -14,7 +14,7 @@ use Rattle.octets.proofs.NumberLaws.{length-to_little_endian}
 use Rattle.protocol.specs.Bytes.{Bytes, number_at}
 use Rattle.protocol.specs.Signing.{is_signed, with_signed_flag, with_signature}
 
--- ---- as the code puts them there
+-- ____ as the code puts them there
 
 -- 16 bytes, copied into the place of the signature
 pub stored_is : (s m : Bytes) → length s ≡ 16 → paste m 48 s (length s) ≡ with_signature s m
@@ -36,16 +36,16 @@ flagged_length m long =
     let b = length-append flags (drop 20 m) in
     omega (arith, l16, length-to_little_endian 4 (bit_or (number_at 16 4 m) 8), length-drop 20 m)
 
--- ---- in front of more bytes
+-- ____ in front of more bytes
 
 module _ (a b : Bytes) (long : 64 ≤ length a) where
   same_field : (p n : ℕ) → p + n ≤ 64 → bytes_at p n (a ++ b) ≡ bytes_at p n a
   same_field p n h =
       ap (take n) (drop-append-le p a b (omega arith)) ∙ take-append-le n (drop p a) b (let l = length-drop p a in omega arith)
 
-  pub flagged-append : with_signed_flag (a ++ b) ≡ with_signed_flag a ++ b
+  pub flagged_append : with_signed_flag (a ++ b) ≡ with_signed_flag a ++ b
   unfolding with_signed_flag
-  flagged-append =
+  flagged_append =
       let same : number_at 16 4 (a ++ b) ≡ number_at 16 4 a = ap little_endian (same_field 16 4 (omega arith)) in
       let flags = to_little_endian 4 (bit_or (number_at 16 4 a) 8) in
       ap₂ (λ (x : Bytes) (y : Bytes). x ++ (to_little_endian 4 (bit_or (number_at 16 4 (a ++ b)) 8) ++ y))
@@ -61,7 +61,7 @@ module _ (a b : Bytes) (long : 64 ≤ length a) where
       ∙ ap (λ (x : Bytes). take 48 a ++ x) (sym (append_assoc s (drop 64 a) b))
       ∙ sym (append_assoc (take 48 a) (s ++ drop 64 a) b)
 
--- ---- where the flag is there already
+-- ____ where the flag is there already
 
 bit-set : (b : ℕ) → b ≡ 1 → bit_or b 1 ≡ 1
 bit-set b e = ap (λ (x : ℕ). bit_or x 1) e

@@ -14,7 +14,7 @@ use Rattle.sha_2.specs.Sha256.{sha256}
 use Rattle.sha_2.proofs.Lengths.{length-hash}
 use Rattle.hmac.specs.Hmac.{hmac}
 use Rattle.kdf.specs.CounterMode.{derive_sha256}
-use Rattle.kdf.proofs.CounterModeLaws.{of-bytes, length-derived}
+use Rattle.kdf.proofs.CounterModeLaws.{of-bytes, length_derived}
 use Rattle.cmac.specs.Cmac as rfc4493
 use Rattle.cmac.proofs.Lengths.{length-cmac}
 use Rattle.ccm.proofs.CcmLaws as ccm-laws
@@ -26,7 +26,7 @@ use Rattle.protocol.specs.Sound.{Sound}
 use Rattle.protocol.specs.Ciphers.{aes, ccm_nonce, gcm_nonce, Cipher, aes_ccm, aes_gcm, cipher_of}
 use Rattle.protocol.specs.Suite.{suite, sha512, kdf, cmac}
 
--- ---- each part is what its own crate defines
+-- ____ each part is what its own crate defines
 
 pub sha512_is : (m : Bytes) → sha512 m ≡ hash sha2.sha512 m
 unfolding suite
@@ -42,16 +42,16 @@ one_block true = (lit≤ tt, lit≤ tt)
 one_block false = (lit≤ tt, lit≤ tt)
 
 -- "the first 16 bytes of HMAC-SHA-256 .. over: 00 00 00 01, label, 00, context, 00 00 00 80", or the first 32 with the other closing length
-pub kdf-of_document : (wide : Bool) (key label context : Bytes)
+pub kdf_of_document : (wide : Bool) (key label context : Bytes)
     → kdf (cipher_key_bytes wide) key label context ≡ take (cipher_key_bytes wide) (hmac sha256 key (derivation_input (cipher_key_bytes wide) label context))
 unfolding suite derivation_input
-kdf-of_document wide key label context = of-bytes (cipher_key_bytes wide) (one_block wide).0 (one_block wide).1 key label context
+kdf_of_document wide key label context = of-bytes (cipher_key_bytes wide) (one_block wide).0 (one_block wide).1 key label context
 
 pub cmac_is : (key m : Bytes) → cmac key m ≡ rfc4493.cmac (aes key) m
 unfolding suite
 cmac_is key m = refl
 
--- ---- what is relied on
+-- ____ what is relied on
 
 -- of one cipher
 record SoundCipher (x : Cipher) : Type 0 where
@@ -91,7 +91,7 @@ unfolding suite
 suite_sound =
     record {
       hash_length = length-hash sha2.sha512;
-      key_length = λ wide. length-derived (cipher_key_bytes wide) (one_block wide).0 (one_block wide).1;
+      key_length = λ wide. length_derived (cipher_key_bytes wide) (one_block wide).0 (one_block wide).1;
       signature-length = λ key m. length-cmac (aes key) (λ x. length-cipher _ (expanded_key key) x) m;
       tag-length = λ n. (cipher_sound n).tag-length;
       encrypt-length = λ n. (cipher_sound n).encrypt-length;

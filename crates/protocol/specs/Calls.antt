@@ -9,19 +9,19 @@ use Rattle.protocol.specs.Connection.{Role, other, is_server, Connection, cipher
 use Rattle.protocol.specs.TransformHeader.{inner, session_id_of, TransformHeader, header_of}
 use Rattle.protocol.specs.InnerHeader.{Envelope}
 use Rattle.protocol.specs.Compound.{walk}
-use Rattle.protocol.specs.Keys.{derivedKeys, keys_in_order}
+use Rattle.protocol.specs.Keys.{derived_keys, keys_in_order}
 use Rattle.protocol.specs.Preauth.{FoldKind, admitted, folded, fold_mark}
 use Rattle.protocol.specs.Pieces.{Underway, begun_from, not_begun, piece_fits, message_of, with_piece, finished_value}
-use Rattle.protocol.specs.Signing.{signatureUnder, signedUnder}
+use Rattle.protocol.specs.Signing.{signature_under, signed_under}
 use Rattle.protocol.specs.SigningPieces.{signature_of}
-use Rattle.protocol.specs.SessionTable.{Session, sealing_key, opening_key, record_of, change_record, remove_record, has_free, fill_free, Adding, newRecord}
+use Rattle.protocol.specs.SessionTable.{Session, sealing_key, opening_key, record_of, change_record, remove_record, has_free, fill_free, Adding, new_record}
 use Rattle.protocol.specs.SessionTable.{count_up, counter_step}
 use Rattle.protocol.specs.Refusals.{not_encrypting, too_short, too_long, not_transform, bad_flags, dirty_nonce, other_session, constrained, guest, other_key_size}
 use Rattle.protocol.specs.Refusals.{bad_tag, bad_size, counter_used_up, unknown_dialect, bad_key_material, id_zero, id_taken, table_full, fold_length, bad_length}
 use Rattle.protocol.specs.Refusals.{inner_too_short, not_header, not_signed, bad_signature}
-use Rattle.protocol.specs.Transform.{Primitives, sealedUnder, plaintextUnder, opened_to}
+use Rattle.protocol.specs.Transform.{Primitives, sealed_under, plaintext_under, opened_to}
 
--- ---- the calls, each with all that it only reads
+-- ____ the calls, each with all that it only reads
 
 pub data Call : Type 0 where
   -- dialect, cipher, chain value, key material
@@ -120,7 +120,7 @@ chain_and_underway v u = with_underway u (only_chain v)
 abbrev pub only_signature : Bytes → Lent
 only_signature place = with_signature_place place nothing
 
--- ---- what a call tests: lines of the table of numbers, the walk if there is one, lines after it
+-- ____ what a call tests: lines of the table of numbers, the walk if there is one, lines after it
 
 -- the inner message that is walked over, or what a done answer carries where there is none
 pub data Inner : Type 0 where
@@ -148,7 +148,7 @@ lines ts = record { before = ts; walked = carries 0; later = [] }
 abbrev pub sent_by : Role → ℕ → Envelope
 sent_by r id = record { id = id; from_server = is_server r }
 
--- ---- parts that several calls share
+-- ____ parts that several calls share
 
 -- 40: a cipher key, a signing key, a chain value
 abbrev pub key_tests : Connection → Bytes → List Test
@@ -217,29 +217,29 @@ abbrev pub add_tests : Adding → Bool → Bool → List Test
 add_tests a taken room =
     chain_tests a.chain ++ (material_tests a.dialect a.cipher a.material ++ (id_zero a.id ∷ id_taken taken ∷ table_full room ∷ []))
 
--- ---- sealing and opening with a record
+-- ____ sealing and opening with a record
 
 module _ (P : Primitives) (c : Connection) (m : Bytes) (s : Session) where
   -- "sealing 1, 2, 3, 6, 7, 8, 11 to 16, 17", with 35 after 8
-  unfoldable pub sealTests : ℕ → Tests
-  sealTests id = record { before = message_tests c m ++ record_tests c s; walked = over (inner m) (sent_by c.role id); later = counter_used_up s.counter ∷ [] }
+  unfoldable pub seal_tests : ℕ → Tests
+  seal_tests id = record { before = message_tests c m ++ record_tests c s; walked = over (inner m) (sent_by c.role id); later = counter_used_up s.counter ∷ [] }
 
-  abbrev pub sealedWith : ℕ → Bytes
-  sealedWith id = sealedUnder P.ciphers (cipher_used c) (sealing_key c.role s.keys) s.counter id (inner m)
+  abbrev pub sealed_with : ℕ → Bytes
+  sealed_with id = sealed_under P.ciphers (cipher_used c) (sealing_key c.role s.keys) s.counter id (inner m)
 
   abbrev pub plaintext : Option Bytes
-  plaintext = plaintextUnder P.ciphers (cipher_used c) (opening_key c.role s.keys) m
+  plaintext = plaintext_under P.ciphers (cipher_used c) (opening_key c.role s.keys) m
 
   -- "Opening tests 1 to 16", with 29 after 5 and 35 after 8
-  unfoldable pub openTests : Tests
-  openTests =
+  unfoldable pub open_tests : Tests
+  open_tests =
       record {
         before = message_tests c m ++ (header_tests c (header_of m) ++ (record_tests c s ++ text_tests m plaintext));
         walked = over (get_or plaintext []) (sent_by (other c.role) (session_id_of m));
         later = [];
       }
 
--- ---- one clause for one call
+-- ____ one clause for one call
 
 module _ (P : Primitives) where
   unfoldable pub tests : Call → Lent → Tests
@@ -258,52 +258,52 @@ module _ (P : Primitives) where
       }
   tests (opening_under c key id) w =
       let m = w.message in
-      let text = plaintextUnder P.ciphers (cipher_used c) key m in
+      let text = plaintext_under P.ciphers (cipher_used c) key m in
       record {
         before = key_tests c key ++ (message_tests c m ++ (header_tests c (header_of m) ++ (other_session (eqb (session_id_of m) id) ∷ text_tests m text)));
         walked = over (get_or text []) (sent_by (other c.role) id);
         later = [];
       }
   tests (signing_under key) w = lines (sign_tests key w.message)
-  tests (verifying_under key) w = lines (verify_tests key w.message (signatureUnder P.cmac key w.message))
+  tests (verifying_under key) w = lines (verify_tests key w.message (signature_under P.cmac key w.message))
   tests (sign_beginning key) w = lines (signing_key_tests key)
   tests (sign_piece p) w = lines (too_long (not (piece_fits w.underway p)) ∷ [])
   tests (sign_finishing u) w = lines (sign_finish_tests u w.signature)
-  tests (verify_finishing u) w = lines (verify_finish_tests u (signatureUnder P.cmac u.start u.joined))
+  tests (verify_finishing u) w = lines (verify_finish_tests u (signature_under P.cmac u.start u.joined))
   tests (adding a) w = lines (add_tests a (record_of a.id w.table).used (has_free w.table))
   -- "or answers 6 if there is none"
   tests (removing i) w = lines (other_session (record_of i w.table).used ∷ [])
   tests (stepping i by) w = lines []
-  tests (sealing c id) w = sealTests P c w.message (record_of id w.table) id
-  tests (opening c) w = openTests P c w.message (record_of (session_id_of w.message) w.table)
+  tests (sealing c id) w = seal_tests P c w.message (record_of id w.table) id
+  tests (opening c) w = open_tests P c w.message (record_of (session_id_of w.message) w.table)
 
   -- what it leaves where it answers 0
   unfoldable pub effect : Call → Lent → Lent
-  effect (derivation dialect cipher chain material) w = with_keys (keys_in_order (derivedKeys P.kdf dialect cipher chain material)) w
+  effect (derivation dialect cipher chain material) w = with_keys (keys_in_order (derived_keys P.kdf dialect cipher chain material)) w
   effect (folding kind m) w = with_chain (folded P.sha512 kind w.chain m) w
   effect (fold_beginning v) w = with_underway (begun_from v) w
   effect (fold_piece p) w = with_underway (with_piece p w.underway) w
   -- the state that it is handed is used up: what it hands back is `notBegun`, whatever it answers
   effect (fold_finishing kind) w = with_chain (finished_value P.sha512 kind w.chain w.underway) w
   effect (sealing_under c key id) w =
-      with_counter (w.counter + 1) (with_message (sealedUnder P.ciphers (cipher_used c) key w.counter id (inner w.message)) w)
-  effect (opening_under c key id) w = with_message (opened_to w.message (plaintextUnder P.ciphers (cipher_used c) key w.message)) w
-  effect (signing_under key) w = with_message (signedUnder P.cmac key w.message) w
+      with_counter (w.counter + 1) (with_message (sealed_under P.ciphers (cipher_used c) key w.counter id (inner w.message)) w)
+  effect (opening_under c key id) w = with_message (opened_to w.message (plaintext_under P.ciphers (cipher_used c) key w.message)) w
+  effect (signing_under key) w = with_message (signed_under P.cmac key w.message) w
   -- it "changes no byte"
   effect (verifying_under key) w = w
   effect (sign_beginning key) w = with_underway (begun_from key) w
   effect (sign_piece p) w = with_underway (with_piece p w.underway) w
   effect (sign_finishing u) w = with_signature_place (signature_of P.cmac u) w
   effect (verify_finishing u) w = w
-  effect (adding a) w = with_table (fill_free (newRecord P.kdf a) w.table) w
+  effect (adding a) w = with_table (fill_free (new_record P.kdf a) w.table) w
   effect (removing i) w = with_table (remove_record i w.table) w
   effect (stepping i by) w = with_table (change_record (counter_step by) i w.table) w
   effect (sealing c id) w =
-      with_table (change_record count_up id w.table) (with_message (sealedWith P c w.message (record_of id w.table) id) w)
+      with_table (change_record count_up id w.table) (with_message (sealed_with P c w.message (record_of id w.table) id) w)
   -- it "never changes the table"
   effect (opening c) w = with_message (opened_to w.message (plaintext P c w.message (record_of (session_id_of w.message) w.table))) w
 
-  -- ---- and once for all calls
+  -- ____ and once for all calls
 
   abbrev pub answer : Call → Lent → Answer
   answer c w = verdict (tests c w)

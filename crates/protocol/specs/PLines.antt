@@ -10,7 +10,7 @@ use Rattle.protocol.specs.Answer.{done, refused}
 use Rattle.protocol.specs.Connection.{Connection, server}
 use Rattle.protocol.specs.InnerHeader.{Envelope}
 use Rattle.protocol.specs.Compound.{walk}
-use Rattle.protocol.specs.Keys.{session_key, smb_c2_s_cipher_key, derivation_input, derivedKeys}
+use Rattle.protocol.specs.Keys.{session_key, smb_c2_s_cipher_key, derivation_input, derived_keys}
 use Rattle.protocol.specs.SessionTable.{Session, zero_keys}
 use Rattle.protocol.specs.TransformHeader.{nonce_of}
 use Rattle.protocol.specs.Calls.{opening, message_and_table, answer}
@@ -52,7 +52,7 @@ pub record PLines : Type 0 where
   pub P10 : (from_server : Bool) → walk (header 0 64 5 ++ replicate 63 0) (session5 from_server) ≡ refused 15
   pub P11 : (from_server : Bool) → walk (header 0 4294967288 5 ++ header 4 0 9) (session5 from_server) ≡ refused 15
   pub P12 : (material chain : Bytes) → length chain ≡ 64
-      → ((derivedKeys kdf 0x0311 1 chain material).client_to_server
+      → ((derived_keys kdf 0x0311 1 chain material).client_to_server
       ≡ take 16 (hmac sha256 (session_key material) (derivation_input 16 smb_c2_s_cipher_key chain)))
       × (length (derivation_input 16 smb_c2_s_cipher_key chain) ≡ 89)
   pub P13 : nonce_of 1 ≡ 1 ∷ replicate 15 0

@@ -3,7 +3,7 @@
 use Rattle.std.specs.Prelude.{Bool, true, false, cond, not, ◌&&◌, ◌||◌, List, [], ◌∷◌, ℕ, ◌+◌, leb, eqb, replicate}
 use Rattle.protocol.specs.Bytes.{Bytes}
 use Rattle.protocol.specs.Connection.{Role, client, server, other, is_wide, cipher_key_bytes, last_counter}
-use Rattle.protocol.specs.Keys.{Keys, derivedKeys}
+use Rattle.protocol.specs.Keys.{Keys, derived_keys}
 
 -- "a lent run of session records: used or free, id, guest, anonymous, four .. keys, 64-bit send counter"; "the record keeps its key size"
 pub record Session : Type 0 where
@@ -38,7 +38,7 @@ sealing_key server k = k.server_to_client
 abbrev pub opening_key : Role → Keys → Bytes
 opening_key r k = sealing_key (other r) k
 
--- ---- "Lookup takes the first used record with the id"
+-- ____ "Lookup takes the first used record with the id"
 
 abbrev pub is_session : ℕ → Session → Bool
 is_session i s = s.used && eqb s.id i
@@ -57,7 +57,7 @@ change_record f i (s ∷ t) = cond (is_session i s) (f s ∷ t) (s ∷ change_re
 abbrev pub remove_record : ℕ → List Session → List Session
 remove_record i t = change_record (λ s. free_record) i t
 
--- ---- "Adding uses the first free record, with counter 0."
+-- ____ "Adding uses the first free record, with counter 0."
 
 abbrev pub has_free : List Session → Bool
 has_free [] = false
@@ -85,8 +85,8 @@ keys_held false n k = k
 
 module _ (kdf : ℕ → Bytes → Bytes → Bytes → Bytes) where
   -- the record that adding makes
-  abbrev pub newRecord : Adding → Session
-  newRecord a =
+  abbrev pub new_record : Adding → Session
+  new_record a =
       record {
         used = true;
         id = a.id;
@@ -95,11 +95,11 @@ module _ (kdf : ℕ → Bytes → Bytes → Bytes → Bytes) where
         wide = is_wide a.dialect a.cipher;
         keys =
             keys_held (a.guest || a.anonymous) (cipher_key_bytes (is_wide a.dialect a.cipher))
-            (derivedKeys kdf a.dialect a.cipher a.chain a.material);
+            (derived_keys kdf a.dialect a.cipher a.chain a.material);
         counter = 0;
       }
 
--- ---- the counter
+-- ____ the counter
 
 -- "The counter goes up by one and nothing else in the table changes."
 abbrev pub count_up : Session → Session

@@ -23,11 +23,11 @@ with_signature s m = take 48 m ++ (s ++ drop 64 m)
 
 module _ (cmac : Bytes → Bytes → Bytes) where
   -- "zero bytes 48..64 of the header, sign the whole message"
-  unfoldable pub signatureUnder : Bytes → Bytes → Bytes
-  signatureUnder key m = cmac key (with_signature (replicate 16 0) m)
+  unfoldable pub signature_under : Bytes → Bytes → Bytes
+  signature_under key m = cmac key (with_signature (replicate 16 0) m)
 
   -- the flag, then the signature: "store the 16 bytes there"
-  unfoldable pub signedUnder : Bytes → Bytes → Bytes
-  signedUnder key m =
+  unfoldable pub signed_under : Bytes → Bytes → Bytes
+  signed_under key m =
       let flagged = with_signed_flag m in
-      with_signature (signatureUnder key flagged) flagged
+      with_signature (signature_under key flagged) flagged

@@ -7,7 +7,7 @@ use Rattle.std.proofs.Math.Option.{Option, get_or}
 use Rattle.protocol.specs.Bytes.{Bytes}
 use Rattle.protocol.specs.TransformHeader.{nonce_of, authenticated, transform_message, inner, signature_of, nonce_field, authenticated_of}
 
--- ---- the primitives
+-- ____ the primitives
 
 -- the ciphers, by number. The nonce is the header's field of 16 bytes, of which each cipher takes its 11 or 12
 pub record Ciphers : Type 0 where
@@ -25,20 +25,20 @@ pub record Primitives : Type 0 where
   pub cmac : Bytes → Bytes → Bytes
   pub ciphers : Ciphers
 
--- ---- cipher, key, then what is sealed or opened
+-- ____ cipher, key, then what is sealed or opened
 
 module _ (P : Ciphers) where
   -- what the buffer holds after sealing its inner message p with the counter for the session id: "It writes all 52 bytes", and the
   -- ciphertext behind them
-  unfoldable pub sealedUnder : ℕ → Bytes → ℕ → ℕ → Bytes → Bytes
-  sealedUnder cipher key counter id p =
+  unfoldable pub sealed_under : ℕ → Bytes → ℕ → ℕ → Bytes → Bytes
+  sealed_under cipher key counter id p =
       let nonce = nonce_of counter in
       let auth = authenticated counter (length p) id in
       transform_message (P.tag cipher key nonce auth p) auth (P.encrypt cipher key nonce auth p)
 
   -- the plaintext of the message m, if the tag is right
-  unfoldable pub plaintextUnder : ℕ → Bytes → Bytes → Option Bytes
-  plaintextUnder cipher key m = P.decrypt cipher key (nonce_field m) (authenticated_of m) (signature_of m) (inner m)
+  unfoldable pub plaintext_under : ℕ → Bytes → Bytes → Option Bytes
+  plaintext_under cipher key m = P.decrypt cipher key (nonce_field m) (authenticated_of m) (signature_of m) (inner m)
 
 -- what the buffer m holds with this plaintext: "Opening leaves the header, replaces the rest by the plaintext"
 abbrev pub opened_to : Bytes → Option Bytes → Bytes

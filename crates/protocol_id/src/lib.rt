@@ -1,5 +1,7 @@
 // The four bytes that an SMB message or one of its headers begins with (MS-SMB2 2.2.1.2 and 2.2.41): FE 53 4D 42, or FD 53 4D 42 for a
 // transform header.
+#![tactic(auto)]
+
 ghost use Rattle.std.specs.Prelude.{◌≡◌, [], ◌∷◌};
 ghost use Rattle.octets.specs.Numbers.{bytes_at};
 ghost use Rattle.octets.specs.Same.{same_bytes};

@@ -13,7 +13,7 @@ use Rattle.aes.specs.Cipher.{cipher, rounds, add_round_key, mix_columns, mixed, 
 use Rattle.aes.specs.KeyExpansion.{key_expansion, round_keys, words, key_words, temp, rcon, xpower, word_of, xor_word, sub_word, rot_word}
 use Rattle.ctr.specs.BlockCipher.{block_cipher}
 use Rattle.cbc_mac.specs.CbcMac.{cbc_mac}
-use Rattle.cmac.specs.Cmac.{doubled, k1, k2, lastBlock, cmac}
+use Rattle.cmac.specs.Cmac.{doubled, k1, k2, last_block, cmac}
 
 abbrev key : List ℕ
 key = 0x2b ∷ 0x7e ∷ 0x15 ∷ 0x16 ∷ 0x28 ∷ 0xae ∷ 0xd2 ∷ 0xa6 ∷ 0xab ∷ 0xf7 ∷ 0x15 ∷ 0x88 ∷ 0x09 ∷ 0xcf ∷ 0x4f ∷ 0x3c ∷ []
@@ -56,12 +56,12 @@ unfolding doubled big_endian_after to_big_endian xor_with
 subkey_2 = ap doubled subkey_1
 
 -- the one block that is enciphered, from its subkey
-whole : lastBlock E message ≡ get_or blocks 2 []
-unfolding lastBlock xor_with
+whole : last_block E message ≡ get_or blocks 2 []
+unfolding last_block xor_with
 whole = ap (xor message) subkey_1
 
-padded : lastBlock E [] ≡ get_or blocks 1 []
-unfolding lastBlock xor_with zero_padded
+padded : last_block E [] ≡ get_or blocks 1 []
+unfolding last_block xor_with zero_padded
 padded = ap (xor (zero_padded 16 (0x80 ∷ []))) subkey_2
 
 example_1 : cmac E [] ≡ 0xbb ∷ 0x1d ∷ 0x69 ∷ 0x29 ∷ 0xe9 ∷ 0x59 ∷ 0x37 ∷ 0x28 ∷ 0x7f ∷ 0xa3 ∷ 0x7d ∷ 0x12 ∷ 0x9b ∷ 0x75 ∷ 0x67 ∷ 0x46 ∷ []

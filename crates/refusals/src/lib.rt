@@ -1,5 +1,7 @@
 // The tests before a message is sealed or opened: the number of the first line of the table of numbers that applies, else what the later
 // lines say. A call's list is a chain of these.
+#![tactic(auto)]
+
 ghost use Rattle.std.specs.Prelude.{◌≡◌, length};
 ghost use Rattle.protocol.specs.Answer.{first_else};
 ghost use Rattle.protocol.specs.TransformHeader.{inner};

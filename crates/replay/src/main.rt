@@ -1,6 +1,8 @@
 // smb3seal-replay [FILE]: replays a lab trace (RULES 16) from the file, or from standard input. Each record gets a line: its index from 0, a
 // space and its answer number, or "long". The last line of a replay that stops is "stop", a space and the place where that record begins.
 // What fails is said on standard error, and then no further line is written.
+#![tactic(auto)]
+
 mod advance;
 mod turns;
 

@@ -1,6 +1,8 @@
 // smb3seal-rescue INPUT OUTPUT: copies the good records of a damaged lab trace (RULES 17) into a new file, and writes a line for each gap:
 // the place of its first byte in the input, a space, how many bytes are dropped. To an input of more than 65,536 bytes it writes "long", to
 // one whose file head cannot be read "stop 0", and then makes no file. What fails is said on standard error, and then there is no new file.
+#![tactic(auto)]
+
 mod output;
 
 ghost use Rattle.std.specs.Prelude.{◌≡◌, ltb};

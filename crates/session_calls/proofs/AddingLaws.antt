@@ -25,7 +25,7 @@ use Rattle.session_record.specs.declared.Session.{Session}
 use Rattle.session_record.specs.Reading.{stored}
 use Rattle.session_record.specs.Adds.{adding_of, record_with, AddsWith}
 
--- ---- the record
+-- ____ the record
 
 -- the zero key of either size, as it is stored
 zero-stored : (wide : Bool) → table.zero_key 32 ≡ zero_padded 32 (table.zero_key (cipher_key_bytes wide))
@@ -68,7 +68,7 @@ module _ (a : Adding) (wide : Bool) (k : rules.Keys) where
   held-stored true = λ i. with (zero-stored wide i) (zero-stored wide i)
   held-stored false = refl
 
--- ---- the numbers, and the ways out
+-- ____ the numbers, and the ways out
 
 module _ (a : Adding) (chain material : Bytes) (taken room : Bool) (old : Session) (line20 line18 n : ℕ)
     (e20 : line20 ≡ first_of (id_zero a.id ∷ id_taken taken ∷ table_full room ∷ []))
@@ -86,18 +86,18 @@ module _ (a : Adding) (chain material : Bytes) (taken room : Bool) (old : Sessio
   pub add-refused : (n ≡ 0 → ⊥) → AddsWith x taken room old n old
   add-refused h =
       let q = refuses (add_tests x taken room) (done 0) n number_is h in
-      record { number = answered; session = sym (ap (λ (v : Answer). when_done v (λ k. stored (table.newRecord kdf x)) old) q) }
+      record { number = answered; session = sym (ap (λ (v : Answer). when_done v (λ k. stored (table.new_record kdf x)) old) q) }
 
   module _ (z : n ≡ 0) where
-    made : record_with a (keys.stored (rules.derivedKeys kdf a.dialect a.cipher chain material)) ≡ stored (table.newRecord kdf x)
+    made : record_with a (keys.stored (rules.derived_keys kdf a.dialect a.cipher chain material)) ≡ stored (table.new_record kdf x)
     unfolding record_with
-    made = held-stored a (is_wide a.dialect a.cipher) (rules.derivedKeys kdf a.dialect a.cipher chain material) (a.guest || a.anonymous)
+    made = held-stored a (is_wide a.dialect a.cipher) (rules.derived_keys kdf a.dialect a.cipher chain material) (a.guest || a.anonymous)
 
-    pub add_done : (k : Keys) (s : Session) → k ≡ keys.stored (rules.derivedKeys kdf a.dialect a.cipher chain material) → s ≡ record_with a k
+    pub add_done : (k : Keys) (s : Session) → k ≡ keys.stored (rules.derived_keys kdf a.dialect a.cipher chain material) → s ≡ record_with a k
         → AddsWith x taken room old n s
     add_done k s ek es =
         let q = judge-passed (add_tests x taken room) (done 0) (passes (add_tests x taken room) n refl number_is z) in
         record {
           number = answered;
-          session = es ∙ ap (record_with a) ek ∙ made ∙ sym (ap (λ (v : Answer). when_done v (λ k. stored (table.newRecord kdf x)) old) q);
+          session = es ∙ ap (record_with a) ek ∙ made ∙ sym (ap (λ (v : Answer). when_done v (λ k. stored (table.new_record kdf x)) old) q);
         }

@@ -15,13 +15,13 @@ use Rattle.protocol.specs.TransformHeader.{TransformHeader, header_of, session_i
 use Rattle.protocol.specs.Compound.{walk}
 use Rattle.protocol.specs.SessionTable.{Session, opening_key}
 use Rattle.protocol.specs.Transform.{opened_to}
-use Rattle.protocol.specs.Calls.{sent_by, opening_under, Lent, only_message, message_tests, header_tests, record_tests, text_tests, openTests, plaintext, effect}
+use Rattle.protocol.specs.Calls.{sent_by, opening_under, Lent, only_message, message_tests, header_tests, record_tests, text_tests, open_tests, plaintext, effect}
 use Rattle.protocol.specs.Calls.{answer}
 use Rattle.protocol.specs.Contract.{Makes}
 use Rattle.protocol.specs.Suite.{suite}
 use Rattle.protocol.proofs.AnswerLaws.{when_part}
 use Rattle.protocol.proofs.Judging.{NoneApplies, refuses, passes, line, lines_after, judge-append}
-use Rattle.protocol.proofs.RecordLaws.{open-by-key}
+use Rattle.protocol.proofs.RecordLaws.{open_by_key}
 use Rattle.transform_header.specs.Reading.{header_in}
 use Rattle.transform_header.proofs.HeaderIn.{header-there}
 use Rattle.session_record.specs.Clauses.{OpensWith}
@@ -51,9 +51,9 @@ module _ (c : Connection) (s : Session) (m : Bytes) where
         go true b = rw b
         go false b = rw (header-there m (leb-false (length m) 52 b))
 
-    pub open-refused : (n ≡ 0 → ⊥) → OpensWith s c m m (refused n)
-    unfolding openTests
-    open-refused g =
+    pub open_refused : (n ≡ 0 → ⊥) → OpensWith s c m m (refused n)
+    unfolding open_tests
+    open_refused g =
         let q = judge-append lines last after ∙ refuses lines (judge last after) n said g in
         record { answer = sym q; bytes = sym (ap (λ (x : Answer). when_done x (λ k. opened_to m (plaintext suite c m s)) m) q) }
 
@@ -75,7 +75,7 @@ module _ (c : Connection) (s : Session) (m : Bytes) where
           let size = eqb-true (cipher_key_bytes s.wide) (cipher_key_bytes (uses_wide c)) (not-false _ (line (record_tests c s) rest 35)) in
           let call = opening_under c (opening_key c.role s.keys) (session_id_of m) in
           let o' : Makes call (only_message m) a (only_message m') = rw (ek, there) at o in
-          let same = open-by-key suite c s known (line (record_tests c s) rest 7) (line (record_tests c s) rest 8) size m (sym (ap length ek) ∙ l) in
+          let same = open_by_key suite c s known (line (record_tests c s) rest 7) (line (record_tests c s) rest 8) size m (sym (ap length ek) ∙ l) in
           record {
             answer = o'.answers ∙ sym same;
             bytes =

@@ -1,4 +1,6 @@
 // What sealing, opening and adding do with one session record by value (RULES 10).
+#![tactic(auto)]
+
 ghost use Rattle.std.specs.Prelude.{◌≡◌};
 ghost use Rattle.answer.specs.Reading.{answer_of};
 ghost use Rattle.connection.specs.Reading.{flag, connection_of};

@@ -17,13 +17,13 @@ module _ (s : Session) where
   abbrev from : Bool → Bytes
   from b = cond b s.client_to_server s.server_to_client
 
-  pub sealing-by-role : (b : Bool) → take (key_bytes s) (from b) ≡ sealing_key (cond b client server) (session_of s).keys
-  sealing-by-role true = refl
-  sealing-by-role false = refl
+  pub sealing_by_role : (b : Bool) → take (key_bytes s) (from b) ≡ sealing_key (cond b client server) (session_of s).keys
+  sealing_by_role true = refl
+  sealing_by_role false = refl
 
-  pub opening-by-role : (b : Bool) → take (key_bytes s) (from (not b)) ≡ opening_key (cond b client server) (session_of s).keys
-  opening-by-role true = refl
-  opening-by-role false = refl
+  pub opening_by_role : (b : Bool) → take (key_bytes s) (from (not b)) ≡ opening_key (cond b client server) (session_of s).keys
+  opening_by_role true = refl
+  opening_by_role false = refl
 
 -- the part of a place that is lent as the key
 module _ (wide : Bool) (n : ℕ) (e : n ≡ cipher_key_bytes wide) (place : Bytes) (l : length place ≡ 32) where

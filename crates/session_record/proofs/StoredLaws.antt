@@ -7,11 +7,11 @@ use lib.ListN.{length, take, length-replicate}
 use Rattle.octets.specs.Blocks.{zero_padded}
 use Rattle.protocol.specs.Bytes.{Bytes}
 use Rattle.protocol.specs.Connection.{is_wide, cipher_key_bytes}
-use Rattle.protocol.specs.Keys.{Keys, derivedKeys}
+use Rattle.protocol.specs.Keys.{Keys, derived_keys}
 use Rattle.protocol.specs.SessionTable as table
 use Rattle.protocol.specs.Suite.{kdf}
 use Rattle.connection.specs.Reading.{flag, bit_of}
-use Rattle.derived_keys.proofs.LabelLaws.{derived-lengths}
+use Rattle.derived_keys.proofs.LabelLaws.{derived_lengths}
 use Rattle.derived_keys.proofs.Stored.{unpadded, at_most_32}
 use Rattle.session_record.specs.Reading.{session_of, stored, free}
 
@@ -53,10 +53,10 @@ held_sized : (bare : Bool) (n : ℕ) (k : Keys) → Sized n k → Sized n (table
 held_sized true n k l = record { first = length-replicate n 0; second = length-replicate n 0 }
 held_sized false n k l = l
 
-pub new_read : (a : table.Adding) → session_of (stored (table.newRecord kdf a)) ≡ table.newRecord kdf a
+pub new_read : (a : table.Adding) → session_of (stored (table.new_record kdf a)) ≡ table.new_record kdf a
 new_read a =
     let wide = is_wide a.dialect a.cipher in
-    let l = derived-lengths a.dialect a.cipher a.chain a.material wide refl in
-    stored_read (table.newRecord kdf a)
-    (held_sized (a.guest || a.anonymous) (cipher_key_bytes wide) (derivedKeys kdf a.dialect a.cipher a.chain a.material)
+    let l = derived_lengths a.dialect a.cipher a.chain a.material wide refl in
+    stored_read (table.new_record kdf a)
+    (held_sized (a.guest || a.anonymous) (cipher_key_bytes wide) (derived_keys kdf a.dialect a.cipher a.chain a.material)
     (record { first = l.0; second = l.1 }))

@@ -43,4 +43,4 @@ record_with a k =
 -- adding, where old stands at the first free place: the number is n, and new stands there afterwards, byte for byte
 pub record AddsWith (a : table.Adding) (taken room : Bool) (old : Session) (n : ℕ) (new : Session) : Type 0 where
   pub number : n ≡ answer_number (verdict (lines (add_tests a taken room)))
-  pub session : new ≡ when_done (verdict (lines (add_tests a taken room))) (λ k. stored (table.newRecord kdf a)) old
+  pub session : new ≡ when_done (verdict (lines (add_tests a taken room))) (λ k. stored (table.new_record kdf a)) old

@@ -1,5 +1,7 @@
 // One session record by value: what there is to find out about it and to change of it (RULES 10). The calls that seal, open and add with it are in
 // `session_calls`.
+#![tactic(auto)]
+
 pub mod lines;
 pub mod new;
 

@@ -49,11 +49,11 @@ module _ {M : Type 1} {𝓤 : Ura M} {𝓛 : Logic 𝓤} where
     swap : (P Q R : SProp 𝓤) → ent 𝓤 (sep 𝓤 P (sep 𝓤 Q R)) (sep 𝓤 Q (sep 𝓤 P R))
     swap P Q R = via 𝓤 (sep 𝓤 (sep 𝓤 P Q) R) (assoc' 𝓤 P Q R) (via 𝓤 (sep 𝓤 (sep 𝓤 Q P) R) (mono_l 𝓤 R (comm∗ 𝓤 P Q)) (assoc∗ 𝓤 Q P R))
 
-    last-two : (Γ : List (Item 𝓤)) (i j : Item 𝓤) → ent 𝓤 (⋆ 𝓛 (Γ ++ (i ∷ j ∷ []))) (sep 𝓤 (mean 𝓛 i) (sep 𝓤 (mean 𝓛 j) (⋆ 𝓛 Γ)))
-    last-two [] i j = mono_r 𝓤 (mean 𝓛 i) (pop 𝓛 j [])
-    last-two (x ∷ Γ) i j =
+    last_two : (Γ : List (Item 𝓤)) (i j : Item 𝓤) → ent 𝓤 (⋆ 𝓛 (Γ ++ (i ∷ j ∷ []))) (sep 𝓤 (mean 𝓛 i) (sep 𝓤 (mean 𝓛 j) (⋆ 𝓛 Γ)))
+    last_two [] i j = mono_r 𝓤 (mean 𝓛 i) (pop 𝓛 j [])
+    last_two (x ∷ Γ) i j =
         via 𝓤 (sep 𝓤 (mean 𝓛 x) (⋆ 𝓛 (Γ ++ (i ∷ j ∷ [])))) (pop 𝓛 x (Γ ++ (i ∷ j ∷ [])))
-        (via 𝓤 (sep 𝓤 (mean 𝓛 x) (sep 𝓤 (mean 𝓛 i) (sep 𝓤 (mean 𝓛 j) (⋆ 𝓛 Γ)))) (mono_r 𝓤 (mean 𝓛 x) (last-two Γ i j))
+        (via 𝓤 (sep 𝓤 (mean 𝓛 x) (sep 𝓤 (mean 𝓛 i) (sep 𝓤 (mean 𝓛 j) (⋆ 𝓛 Γ)))) (mono_r 𝓤 (mean 𝓛 x) (last_two Γ i j))
         (via 𝓤 (sep 𝓤 (mean 𝓛 i) (sep 𝓤 (mean 𝓛 x) (sep 𝓤 (mean 𝓛 j) (⋆ 𝓛 Γ)))) (swap (mean 𝓛 x) (mean 𝓛 i) (sep 𝓤 (mean 𝓛 j) (⋆ 𝓛 Γ)))
         (mono_r 𝓤 (mean 𝓛 i)
         (via 𝓤 (sep 𝓤 (mean 𝓛 j) (sep 𝓤 (mean 𝓛 x) (⋆ 𝓛 Γ))) (swap (mean 𝓛 x) (mean 𝓛 j) (⋆ 𝓛 Γ))
@@ -69,7 +69,7 @@ module _ {M : Type 1} {𝓤 : Ura M} {𝓛 : Logic 𝓤} where
         let τ = l.0 in
         let b = l.1 in
         let rest = ⋆ 𝓛 (behind 𝓤 Γ E (others cs)) in
-        via 𝓤 (sep 𝓤 (mean 𝓛 (cell 𝓤 τ b (this cs))) (sep 𝓤 (H.dies τ b) rest)) (last-two (behind 𝓤 Γ E (others cs)) (cell 𝓤 τ b (this cs)) (‵ (fdies τ b)))
+        via 𝓤 (sep 𝓤 (mean 𝓛 (cell 𝓤 τ b (this cs))) (sep 𝓤 (H.dies τ b) rest)) (last_two (behind 𝓤 Γ E (others cs)) (cell 𝓤 τ b (this cs)) (‵ (fdies τ b)))
         (via 𝓤 (sep 𝓤 (H.room τ b zero) (sep 𝓤 (H.dies τ b) rest)) (mono_l 𝓤 (sep 𝓤 (H.dies τ b) rest) (emptied τ b (this cs)))
         (via 𝓤 (sep 𝓤 (sep 𝓤 (H.room τ b zero) (H.dies τ b)) rest) (assoc' 𝓤 (H.room τ b zero) (H.dies τ b) rest)
         (mono_r 𝓤 (sep 𝓤 (H.room τ b zero) (H.dies τ b)) (gives_up Γ E (others cs) P k))))

@@ -21,12 +21,12 @@ use Rattle.protocol.specs.Calls.{Call, derivation, folding, fold_beginning, fold
 use Rattle.protocol.specs.Calls.{adding, removing, stepping, sealing, opening}
 use Rattle.protocol.specs.Calls.{sign_beginning, sign_piece, sign_finishing, verify_finishing}
 use Rattle.protocol.specs.Calls.{Lent, lines}
-use Rattle.protocol.specs.Calls.{sent_by, only_table, message_and_table, message_tests, record_tests, add_tests, sealTests, sealedWith, openTests, plaintext, verdict}
+use Rattle.protocol.specs.Calls.{sent_by, only_table, message_and_table, message_tests, record_tests, add_tests, seal_tests, sealed_with, open_tests, plaintext, verdict}
 use Rattle.protocol.specs.Calls.{tests, effect, answer, left}
 use Rattle.protocol.specs.Contract.{Makes, Returns}
 use Rattle.protocol.specs.Suite.{suite, kdf}
 use Rattle.protocol.proofs.AnswerLaws.{when_part, when_two}
-use Rattle.protocol.proofs.CallLaws.{makes-when, lines-refused, lines-done, number-lines}
+use Rattle.protocol.proofs.CallLaws.{makes_when, lines-refused, lines-done, number-lines}
 use Rattle.protocol.proofs.Judging.{judge-done}
 use Rattle.transform_header.proofs.HeaderIn.{header-there}
 use Rattle.connection.specs.Reading.{flag}
@@ -43,12 +43,12 @@ use Rattle.session_table.specs.Exactly.{counted_up, changed, Exactly}
 use Rattle.session_table.proofs.TableLink.{reads, changes, fills, has_free_lem, keeps}
 use Rattle.session_table.proofs.StepLaws.{step-none, step-one, steps_alike}
 
--- ---- the table of the rules, from the table of the code
+-- ____ the table of the rules, from the table of the code
 
 reads_changed : (c : Call) (m : Bytes) (t : List Session) → table_of (changed c t) ≡ (effect suite c (message_and_table m (table_of t))).table
 unfolding changed effect
 reads_changed (adding a) m t =
-    sym (fills (stored (protocol.newRecord kdf a)) t)
+    sym (fills (stored (protocol.new_record kdf a)) t)
     ∙ ap (λ (s : protocol.Session). protocol.fill_free s (table_of t)) (new_read a)
 reads_changed (removing id) m t = sym (changes (λ s. protocol.free_record) id t free free_read)
 reads_changed (stepping id by) m t = sym (changes (protocol.counter_step by) id t _ (steps_alike by _))
@@ -84,7 +84,7 @@ put v ys zs i new e =
 pub taken : (ys : List Session) (id i : ℕ) (s : Session) → i ≡ place_of id ys → s ≡ get_or ys i free → session_of s ≡ protocol.record_of id (table_of ys)
 taken ys id i s e e' = ap session_of (e' ∙ ap (λ (k : ℕ). get_or ys k free) e) ∙ sym (reads id ys)
 
--- ---- removing
+-- ____ removing
 
 -- a session that is not there: nothing is put
 absent : (id : ℕ) (ys : List Session) (new : Session) → flag (get_or ys (place_of id ys) free).used ≡ false → set ys (place_of id ys) new ≡ ys
@@ -95,11 +95,11 @@ absent id (x ∷ xs) new u = go (is_wanted true id x) refl u (absent id xs new)
     go : (b : Bool) → is_wanted true id x ≡ b → flag (get_or (x ∷ xs) (cond b 0 (suc (place_of id xs))) free).used ≡ false
         → (flag (get_or xs (place_of id xs) free).used ≡ false → set xs (place_of id xs) new ≡ xs)
         → set (x ∷ xs) (cond b 0 (suc (place_of id xs))) new ≡ x ∷ xs
-    go true e u below = absurd (used-false (flag x.used) (eqb x.id id) u e)
+    go true e u below = absurd (used_false (flag x.used) (eqb x.id id) u e)
       where
-        used-false : (p q : Bool) → p ≡ false → (p && q) ≡ true → ⊥
-        used-false true q z e = absurd (let z' : ◌≡◌ {A = ℕ} 0 1 = cc in omega arith)
-        used-false false q z e = absurd (let z' : ◌≡◌ {A = ℕ} 0 1 = cc in omega arith)
+        used_false : (p q : Bool) → p ≡ false → (p && q) ≡ true → ⊥
+        used_false true q z e = absurd (let z' : ◌≡◌ {A = ℕ} 0 1 = cc in omega arith)
+        used_false false q z e = absurd (let z' : ◌≡◌ {A = ℕ} 0 1 = cc in omega arith)
     go false e u below = ap (λ (r : List Session). x ∷ r) (below u)
 
 module _ (ys zs : List Session) (id i : ℕ) (s : Session) (r : Changed) where
@@ -109,10 +109,10 @@ module _ (ys zs : List Session) (id i : ℕ) (s : Session) (r : Changed) where
   abbrev line6 : List Test
   line6 = other_session is-there ∷ []
 
-  pub removed-says : i ≡ place_of id ys → s ≡ get_or ys i free → r ≡ removed_of s → zs ≡ set ys i r.session
+  pub removed_says : i ≡ place_of id ys → s ≡ get_or ys i free → r ≡ removed_of s → zs ≡ set ys i r.session
       → Returns (removing id) (only_table (table_of ys)) r.number (only_table (table_of zs)) × Exactly (removing id) (only_table (table_of ys)) ys zs
   unfolding tests effect changed removed_of
-  removed-says e e' er ez = (record { number = number; leaves = leaves }, exactly)
+  removed_says e e' er ez = (record { number = number; leaves = leaves }, exactly)
     where
       there : flag s.used ≡ is-there
       there = ap (λ (x : protocol.Session). x.used) (taken ys id i s e e')
@@ -143,7 +143,7 @@ module _ (ys zs : List Session) (id i : ℕ) (s : Session) (r : Changed) where
           ap only_table (leaves_table (removing id) [] ys zs exactly)
           ∙ when_part only_table (verdict (lines line6)) (protocol.remove_record id (table_of ys)) (table_of ys)
 
--- ---- adding
+-- ____ adding
 
 module _ (ys zs : List Session) (x : Adding) (material chain : Bytes) (i f : ℕ) (there old : Session) (r : Changed) where
   abbrev asked : protocol.Adding
@@ -152,11 +152,11 @@ module _ (ys zs : List Session) (x : Adding) (material chain : Bytes) (i f : ℕ
   abbrev added : Bool → Bool → Answer
   added taken room = verdict (lines (add_tests asked taken room))
 
-  pub added-says : i ≡ place_of x.id ys → there ≡ get_or ys i free → f ≡ free_place ys → old ≡ get_or ys f free
+  pub added_says : i ≡ place_of x.id ys → there ≡ get_or ys i free → f ≡ free_place ys → old ≡ get_or ys f free
       → AddsWith asked (flag there.used) (ltb f (length ys)) old r.number r.session → zs ≡ set ys f r.session
       → Returns (adding asked) (only_table (table_of ys)) r.number (only_table (table_of zs)) × Exactly (adding asked) (only_table (table_of ys)) ys zs
   unfolding tests effect changed
-  added-says e e' ef eo o ez = (record { number = o.number ∙ ap answer_number same; leaves = leaves }, exactly)
+  added_says e e' ef eo o ez = (record { number = o.number ∙ ap answer_number same; leaves = leaves }, exactly)
     where
       used : flag there.used ≡ (protocol.record_of x.id (table_of ys)).used
       used = ap (λ (s : protocol.Session). s.used) (taken ys x.id i there e e')
@@ -170,31 +170,31 @@ module _ (ys zs : List Session) (x : Adding) (material chain : Bytes) (i f : ℕ
       same : added (flag there.used) (ltb f (length ys)) ≡ answered
       same = λ j. added (used j) (room j)
 
-      new : r.session ≡ when_done answered (λ k. stored (protocol.newRecord kdf asked)) (get_or ys f free)
-      new = o.session ∙ (λ j. when_done (same j) (λ k. stored (protocol.newRecord kdf asked)) (eo j))
+      new : r.session ≡ when_done answered (λ k. stored (protocol.new_record kdf asked)) (get_or ys f free)
+      new = o.session ∙ (λ j. when_done (same j) (λ k. stored (protocol.new_record kdf asked)) (eo j))
 
       exactly : Exactly (adding asked) (only_table (table_of ys)) ys zs
       exactly =
-          put answered ys zs f (stored (protocol.newRecord kdf asked)) (ez ∙ ap (set ys f) new)
-          ∙ ap (λ (k : ℕ). when_done answered (λ n. set ys k (stored (protocol.newRecord kdf asked))) ys) ef
+          put answered ys zs f (stored (protocol.new_record kdf asked)) (ez ∙ ap (set ys f) new)
+          ∙ ap (λ (k : ℕ). when_done answered (λ n. set ys k (stored (protocol.new_record kdf asked))) ys) ef
 
       leaves : only_table (table_of zs) ≡ left suite (adding asked) (only_table (table_of ys))
       leaves =
           ap only_table (leaves_table (adding asked) [] ys zs exactly)
-          ∙ when_part only_table answered (protocol.fill_free (protocol.newRecord kdf asked) (table_of ys)) (table_of ys)
+          ∙ when_part only_table answered (protocol.fill_free (protocol.new_record kdf asked) (table_of ys)) (table_of ys)
 
--- ---- sealing
+-- ____ sealing
 
 module _ (c : Connection) (id : ℕ) (m : Bytes) (ys : List Session) where
   abbrev record_of : protocol.Session
   record_of = protocol.record_of id (table_of ys)
 
   abbrev sealed : Answer
-  sealed = verdict (sealTests suite c m record_of id)
+  sealed = verdict (seal_tests suite c m record_of id)
 
   -- a seal that is done has a counter that can go up
   not_last : (n : ℕ) → sealed ≡ done n → eqb record_of.counter last_counter ≡ false
-  unfolding sealTests
+  unfolding seal_tests
   not_last n e =
       let walked = walk (inner m) (sent_by c.role id) in
       go walked (eqb record_of.counter last_counter)
@@ -210,12 +210,12 @@ module _ (c : Connection) (id : ℕ) (m : Bytes) (ys : List Session) where
   moved s fits e (done n) q = step-one s fits (ap (λ (x : protocol.Session). eqb x.counter last_counter) e ∙ not_last n (sym q))
   moved s fits e (refused n) q = step-none s
 
-  pub sealed-says : (zs : List Session) (m' : Bytes) (i by : ℕ) (s : Session) (a : Answer) → i ≡ place_of id ys → s ≡ get_or ys i free
+  pub sealed_says : (zs : List Session) (m' : Bytes) (i by : ℕ) (s : Session) (a : Answer) → i ≡ place_of id ys → s ≡ get_or ys i free
       → s.counter < 2 ^ 64 → SealsWith (session_of s) c id m m' a → by ≡ counter_moves a → zs ≡ set ys i (stepped by s)
       → Makes (sealing c id) (message_and_table m (table_of ys)) a (message_and_table m' (table_of zs))
       × Exactly (sealing c id) (message_and_table m (table_of ys)) ys zs
   unfolding tests effect changed
-  sealed-says zs m' i by s a e e' fits o eb ez = (made, exactly)
+  sealed_says zs m' i by s a e e' fits o eb ez = (made, exactly)
     where
       there : session_of s ≡ record_of
       there = taken ys id i s e e'
@@ -232,7 +232,7 @@ module _ (c : Connection) (id : ℕ) (m : Bytes) (ys : List Session) where
           (ez ∙ ap (set ys i) (ap (λ (k : ℕ). stepped k s) eb ∙ moved s fits there a q ∙ (λ j. when_done (q j) (λ n. counted_up (e' j)) (e' j))))
           ∙ ap (λ (k : ℕ). when_done sealed (λ n. set ys k (counted_up (get_or ys k free))) ys) e
 
-      message : m' ≡ when_done sealed (λ n. sealedWith suite c m record_of id) m
+      message : m' ≡ when_done sealed (λ n. sealed_with suite c m record_of id) m
       message = o'.bytes
 
       table : table_of zs ≡ when_done sealed (λ n. protocol.change_record protocol.count_up id (table_of ys)) (table_of ys)
@@ -244,18 +244,18 @@ module _ (c : Connection) (id : ℕ) (m : Bytes) (ys : List Session) where
             answers = q;
             leaves =
                 (λ j. message_and_table (message j) (table j))
-                ∙ when_two message_and_table sealed (sealedWith suite c m record_of id) m (protocol.change_record protocol.count_up id (table_of ys)) (table_of ys);
+                ∙ when_two message_and_table sealed (sealed_with suite c m record_of id) m (protocol.change_record protocol.count_up id (table_of ys)) (table_of ys);
           }
 
--- ---- opening
+-- ____ opening
 
 module _ (c : Connection) (m : Bytes) where
   abbrev opened : protocol.Session → Answer
-  opened s = verdict (openTests suite c m s)
+  opened s = verdict (open_tests suite c m s)
 
   -- a message too short for a header is refused whatever the record
   too_short : leb (length m) 52 ≡ true → (s : protocol.Session) → opened s ≡ refused (cond (not (encrypts c)) 1 2)
-  unfolding openTests
+  unfolding open_tests
   too_short e s = go (not (encrypts c)) (leb (length m) 52) _ e
     where
       go : (b d : Bool) (x : Answer) → d ≡ true → cond b (refused 1) (cond d (refused 2) x) ≡ refused (cond b 1 2)
@@ -268,13 +268,13 @@ module _ (c : Connection) (m : Bytes) where
   unfolding tests effect
   opens t m' a o =
       let s = protocol.record_of (session_id_of m) t in
-      makes-when (opening c) (message_and_table m t) a o.answer (message_and_table m' t)
+      makes_when (opening c) (message_and_table m t) a o.answer (message_and_table m' t)
       (ap (λ (x : Bytes). message_and_table x t) (o.bytes ∙ ap (λ (x : Answer). when_done x (λ n. opened_to m (plaintext suite c m s)) m) (sym o.answer))
       ∙ when_part (λ (x : Bytes). message_and_table x t) a (opened_to m (plaintext suite c m s)) m)
 
-  pub opened-says : (ys : List Session) (id i : ℕ) (m' : Bytes) (s : Session) (a : Answer) → id ≡ named_id m → i ≡ place_of id ys → s ≡ get_or ys i free
+  pub opened_says : (ys : List Session) (id i : ℕ) (m' : Bytes) (s : Session) (a : Answer) → id ≡ named_id m → i ≡ place_of id ys → s ≡ get_or ys i free
       → OpensWith (session_of s) c m m' a → Makes (opening c) (message_and_table m (table_of ys)) a (message_and_table m' (table_of ys))
-  opened-says ys id i m' s a e₀ e e' o = opens (table_of ys) m' a (go (leb (length m) 52) refl)
+  opened_says ys id i m' s a e₀ e e' o = opens (table_of ys) m' a (go (leb (length m) 52) refl)
     where
       t : List protocol.Session
       t = table_of ys

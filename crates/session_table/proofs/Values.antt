@@ -38,18 +38,18 @@ abbrev pub mach_t : Changed → Val
 mach_t t = LL.val Ch.the_type Ch'.the_laws t
 
 module _ {M : Type 1} {𝓤 : Ura M} (𝓛 : Logic 𝓤) where
-  pub connection-typed : (c : Connection) → Is ConnectionT c (mach_c c ∷ []) → Holds (has_ty Cn'.mir (mach_c c)) × WT (mach_c c)
-  connection-typed c is = ((LL.lawful Cn.the_type Cn'.the_laws 𝓛).typed c _ is).0
+  pub connection_typed : (c : Connection) → Is ConnectionT c (mach_c c ∷ []) → Holds (has_ty Cn'.mir (mach_c c)) × WT (mach_c c)
+  connection_typed c is = ((LL.lawful Cn.the_type Cn'.the_laws 𝓛).typed c _ is).0
 
   pub answer_typed : (r : Answer) → Is AnswerT r (mach_a r ∷ []) → Holds (has_ty An'.mir (mach_a r)) × WT (mach_a r)
   answer_typed r is = ((EL.lawful An.the_type An'.the_laws 𝓛 tt).typed r _ is).0
 
-  pub changed-typed : (t : Changed) → Is Ch.the_row t (mach_t t ∷ []) → Holds (has_ty Ch'.mir (mach_t t)) × WT (mach_t t)
-  changed-typed t is = ((LL.lawful Ch.the_type Ch'.the_laws 𝓛).typed t _ is).0
+  pub changed_typed : (t : Changed) → Is Ch.the_row t (mach_t t ∷ []) → Holds (has_ty Ch'.mir (mach_t t)) × WT (mach_t t)
+  changed_typed t is = ((LL.lawful Ch.the_type Ch'.the_laws 𝓛).typed t _ is).0
 
 module _ {M : Type 1} {𝓤 : Ura M} {𝓛 : Logic 𝓤} {K : Type 0} {Γ : List (Item 𝓤)} {G : Goal 𝓤 𝓛.H} where
-  pub connection-owned : K → (c : Connection) (v : Val) → Is ConnectionT c (v ∷ []) → Step K 𝓛 (‵ (ConnectionT.own_val c (v ∷ [])) ∷ Γ) G Γ G
-  connection-owned t c v is = owned t ConnectionT (Is ConnectionT) (LL.makes Cn.the_type Cn'.the_plain 𝓛) c (v ∷ []) is
+  pub connection_owned : K → (c : Connection) (v : Val) → Is ConnectionT c (v ∷ []) → Step K 𝓛 (‵ (ConnectionT.own_val c (v ∷ [])) ∷ Γ) G Γ G
+  connection_owned t c v is = owned t ConnectionT (Is ConnectionT) (LL.makes Cn.the_type Cn'.the_plain 𝓛) c (v ∷ []) is
 
-  pub answer-owned : K → (r : Answer) (v : Val) → Is AnswerT r (v ∷ []) → Step K 𝓛 (‵ (AnswerT.own_val r (v ∷ [])) ∷ Γ) G Γ G
-  answer-owned t r v is = owned t AnswerT (Is AnswerT) (EL.makes An.the_type An'.the_plain 𝓛) r (v ∷ []) is
+  pub answer_owned : K → (r : Answer) (v : Val) → Is AnswerT r (v ∷ []) → Step K 𝓛 (‵ (AnswerT.own_val r (v ∷ [])) ∷ Γ) G Γ G
+  answer_owned t r v is = owned t AnswerT (Is AnswerT) (EL.makes An.the_type An'.the_plain 𝓛) r (v ∷ []) is

@@ -2,9 +2,9 @@
 --     R, mach          the record's type, and a record's machine value
 --     size, place-fits the record's size in bytes, and that the place of a record of a table is a usize
 --     typed            a machine value of a record has the record's MIR type
---     looks-table      a `&[Session]` is looked into (`Denote/Index.antt`'s `looks_slice`)
---     record-out       a record is taken out of a row (`elem_out`)
---     record-owned     what a record owns is had for nothing
+--     looks_table      a `&[Session]` is looked into (`Denote/Index.antt`'s `looks_slice`)
+--     record_out       a record is taken out of a row (`elem_out`)
+--     record_owned     what a record owns is had for nothing
 --     set_past, get_past     past the end nothing is set, and a free record stands
 --     is_true, is_false     how a test came out
 -- Assumes `Logic`, and otherwise nothing.
@@ -75,15 +75,15 @@ pub typed : {M : Type 1} {𝓤 : Ura M} (𝓛 : Logic 𝓤) (s : Session) (v : V
 typed 𝓛 s v is = ((LL.lawful T.the_type T'.the_laws 𝓛).typed s (v ∷ []) is).0
 
 module _ {M : Type 1} {𝓤 : Ura M} {𝓛 : Logic 𝓤} {K : Type 0} {Γ : List (Item 𝓤)} {G : Goal 𝓤 𝓛.H} where
-  pub looks-table : K → Soaks G → {κ : Lft} {q : Share} (ys : List Session) (b o : ℕ)
+  pub looks_table : K → Soaks G → {κ : Lft} {q : Share} (ys : List Session) (b o : ℕ)
       → ((q' : Share) → Seq K 𝓛 (‵ (row R q' ys b o) ∷ ‵ (fobor κ q ((arr_parts (shares R) (length ys)).part q' ys b o)) ∷ ‵ (fshr_bor κ (λ s. (arr_parts (shares R) (length ys)).part s ys b o)) ∷ Γ) G)
       → Seq K 𝓛 (‵ (fshr_bor κ (λ s. (arr_parts (shares R) (length ys)).part s ys b o)) ∷ ‵ (flft κ q) ∷ Γ) G
-  looks-table t z = looks_slice t z R (Is R) (shows 𝓛 R) (LL.vals T.the_type T'.the_laws) (LL.tells T.the_type T'.the_laws) (LL.copy T.the_type T'.the_copy 𝓛)
+  looks_table t z = looks_slice t z R (Is R) (shows 𝓛 R) (LL.vals T.the_type T'.the_laws) (LL.tells T.the_type T'.the_laws) (LL.copy T.the_type T'.the_copy 𝓛)
 
-  pub record-out : K → (q : Share) (ys : List Session) (i b o : ℕ) → i < length ys
+  pub record_out : K → (q : Share) (ys : List Session) (i b o : ℕ) → i < length ys
       → (Is R (get_or ys i free) (mach (get_or ys i free) ∷ []) → Seq K 𝓛 (‵ (cell_at q R.mir (mach (get_or ys i free) ∷ []) b (place size o i)) ∷ ‵ (R.own_val (get_or ys i free) (mach (get_or ys i free) ∷ [])) ∷ ‵ (others (shares R) q ys i b o) ∷ Γ) G)
       → Seq K 𝓛 (‵ (row R q ys b o) ∷ Γ) G
-  record-out t q ys i b o = elem_out t R (Is R) (shows 𝓛 R) (LL.vals T.the_type T'.the_laws) (LL.tells T.the_type T'.the_laws) q ys i free b o
+  record_out t q ys i b o = elem_out t R (Is R) (shows 𝓛 R) (LL.vals T.the_type T'.the_laws) (LL.tells T.the_type T'.the_laws) q ys i free b o
 
-  pub record-owned : K → (s : Session) (v : Val) → Is R s (v ∷ []) → Step K 𝓛 (‵ (R.own_val s (v ∷ [])) ∷ Γ) G Γ G
-  record-owned t s v is = owned t R (Is R) (LL.makes T.the_type T'.the_plain 𝓛) s (v ∷ []) is
+  pub record_owned : K → (s : Session) (v : Val) → Is R s (v ∷ []) → Step K 𝓛 (‵ (R.own_val s (v ∷ [])) ∷ Γ) G Γ G
+  record_owned t s v is = owned t R (Is R) (LL.makes T.the_type T'.the_plain 𝓛) s (v ∷ []) is

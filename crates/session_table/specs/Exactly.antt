@@ -2,7 +2,7 @@
 -- Assumes nothing.
 use Rattle.std.specs.Prelude.{◌≡◌, List, ◌+◌}
 use Rattle.protocol.specs.Answer.{when_done}
-use Rattle.protocol.specs.SessionTable.{newRecord}
+use Rattle.protocol.specs.SessionTable.{new_record}
 use Rattle.protocol.specs.Calls.{Call, derivation, folding, fold_beginning, fold_piece, fold_finishing, sealing_under, opening_under, signing_under, verifying_under}
 use Rattle.protocol.specs.Calls.{adding, removing, stepping, sealing, opening, Lent, answer}
 use Rattle.protocol.specs.Calls.{sign_beginning, sign_piece, sign_finishing, verify_finishing}
@@ -17,7 +17,7 @@ counted_up s = with_counter (s.counter + 1) s
 
 -- where it answers 0: at most one record is another, and all others are as they were
 unfoldable pub changed : Call → List Session → List Session
-changed (adding a) t = put_at (free_place t) (stored (newRecord kdf a)) t
+changed (adding a) t = put_at (free_place t) (stored (new_record kdf a)) t
 changed (removing id) t = put_at (place_of id t) free t
 changed (stepping id by) t = put_at (place_of id t) (stepped by (record_at (place_of id t) t)) t
 changed (sealing c id) t = put_at (place_of id t) (counted_up (record_at (place_of id t) t)) t

@@ -1,5 +1,7 @@
 // A run of session records that the caller lends (RULES 10): a record's place, the record there, a record put there, and the step of its
 // counter. What there is to decide about one record is in `session_record`, which takes it by value; the calls are exports of `smb3seal`.
+#![tactic(auto)]
+
 ghost use Rattle.std.specs.Prelude.{◌≡◌};
 ghost use Rattle.session_record.specs.Reading.{is_wanted, stepped};
 ghost use Rattle.session_table.specs.Place.{first, record_at, put_at};

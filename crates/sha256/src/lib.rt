@@ -1,4 +1,6 @@
 // SHA-256 (FIPS 180-4), of a message at once and in pieces.
+#![tactic(auto)]
+
 mod padding;
 
 ghost use Rattle.std.specs.Prelude.{◌≡◌, ℕ, List, [], ◌++◌};

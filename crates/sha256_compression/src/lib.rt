@@ -1,4 +1,6 @@
 // One block, and all whole blocks of a byte string, taken into the hash value (FIPS 180-4 §6.2.2).
+#![tactic(auto)]
+
 pub mod constants;
 mod functions;
 mod rounds;
@@ -70,7 +72,7 @@ fn compress(hs: [u32; 8], block: &[u8]) -> [u32; 8]
 
 // The whole blocks of m.
 pub fn hash_blocks(hs: [u32; 8], m: &[u8]) -> [u32; 8]
-    ensures { result ≡ sha2.hashBlocks sha256 hs (length m.now / 64) m.now }
+    ensures { result ≡ sha2.hash_blocks sha256 hs (length m.now / 64) m.now }
 {
     let mut h = hs;
     let n = m.len() / 64;

@@ -22,7 +22,7 @@ pub struct Working {
 }
 
 fn schedule_word(w16: u32, w15: u32, w7: u32, w2: u32) -> u32
-    ensures { result ≡ sha2.scheduleWord sha256 w16 w15 w7 w2 }
+    ensures { result ≡ sha2.schedule_word sha256 w16 w15 w7 w2 }
 {
     wrapping_add_u32(
         wrapping_add_u32(wrapping_add_u32(small_sigma1(w2), w7), small_sigma0(w15)),

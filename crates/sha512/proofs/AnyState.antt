@@ -6,13 +6,13 @@ use lib.Seq.{paste, take-length, length-paste}
 use Rattle.octets.specs.Numbers.{to_big_endian}
 use Rattle.octets.proofs.NumberLaws.{length-to_big_endian}
 use Rattle.octets.proofs.Paste.{part_all}
-use Rattle.sha_2.specs.Sha2.{hashBlocks, digest, zeros, padding, hash}
+use Rattle.sha_2.specs.Sha2.{hash_blocks, digest, zeros, padding, hash}
 use Rattle.sha_2.specs.Sha512.{sha512}
 use Rattle.sha_2.proofs.Streaming.{length_part, holds-within, holds-beyond, holds-end}
 use Rattle.sha512.specs.declared.Sha512.{Sha512}
 use Rattle.sha512.specs.Code.{waiting, room, within, beyond, updated, finished, Holds}
 
--- ---- by the way that the code takes
+-- ____ by the way that the code takes
 
 same_state : {h h' b b' : List ℕ} {c c' : ℕ} → h ≡ h' → b ≡ b' → c ≡ c'
     → ◌≡◌ {A = Sha512} (record { hash = h; buffer = b; count = c }) (record { hash = h'; buffer = b'; count = c' })
@@ -32,7 +32,7 @@ module _ (s : Sha512) (x : List ℕ) {count' : ℕ} (ec : count' ≡ (s.count + 
       let x₃ : List ℕ = take (length x₂ - length x₂ / 128 * 128) (drop (length x₂ / 128 * 128) x₂) in
       room s ≤ length x
       → buffer₁ ≡ paste s.buffer (waiting s) x₁ (length x₁) → length buffer₁ ≡ 128
-      → hs₁ ≡ hashBlocks sha512 s.hash (length buffer₁ / 128) buffer₁ → hs₂ ≡ hashBlocks sha512 hs₁ (length x₂ / 128) x₂
+      → hs₁ ≡ hash_blocks sha512 s.hash (length buffer₁ / 128) buffer₁ → hs₂ ≡ hash_blocks sha512 hs₁ (length x₂ / 128) x₂
       → buffer₂ ≡ paste buffer₁ 0 x₃ (length x₃)
       → ◌≡◌ {A = Sha512} (record { hash = hs₂; buffer = buffer₂; count = count' }) (updated s x)
   unfolding updated beyond
@@ -42,17 +42,17 @@ module _ (s : Sha512) (x : List ℕ) {count' : ℕ} (ec : count' ≡ (s.count + 
       let block : List ℕ = paste s.buffer (waiting s) (take (room s) x) (length (take (room s) x)) in
       let d₂ : x₂ ≡ rest = part_all x (room s) in
       let d₃ = part_all x₂ (length x₂ / 128 * 128) ∙ ap (λ (l : List ℕ). drop (length l / 128 * 128) l) d₂ in
-      let h₁ : hs₁ ≡ hashBlocks sha512 s.hash 1 block = eh₁ ∙ ap₂ (λ (k : ℕ) (l : List ℕ). hashBlocks sha512 s.hash (k / 128) l) lb₁ eb₁ in
-      let h₂ = eh₂ ∙ ap₂ (λ (v l : List ℕ). hashBlocks sha512 v (length l / 128) l) h₁ d₂ in
+      let h₁ : hs₁ ≡ hash_blocks sha512 s.hash 1 block = eh₁ ∙ ap₂ (λ (k : ℕ) (l : List ℕ). hash_blocks sha512 s.hash (k / 128) l) lb₁ eb₁ in
+      let h₂ = eh₂ ∙ ap₂ (λ (v l : List ℕ). hash_blocks sha512 v (length l / 128) l) h₁ d₂ in
       let b₂ = eb₂ ∙ ap₂ (λ (b l : List ℕ). paste b 0 l (length l)) eb₁ d₃ in
       same_state h₂ b₂ ec ∙ sym (ap (λ (b : Bool). cond b (within s x) (beyond s x)) (le-ltb (length x) (room s) fills))
 
 pub finished_by : (s : Sha512) {end hs r : List ℕ} → end ≡ take (waiting s) s.buffer ++ padding sha512 s.count
-    → hs ≡ hashBlocks sha512 s.hash (length end / 128) end → r ≡ digest sha512 8 hs → r ≡ finished s
+    → hs ≡ hash_blocks sha512 s.hash (length end / 128) end → r ≡ digest sha512 8 hs → r ≡ finished s
 unfolding finished
-finished_by s ee eh er = er ∙ ap (digest sha512 8) (eh ∙ ap (λ (l : List ℕ). hashBlocks sha512 s.hash (length l / 128) l) ee)
+finished_by s ee eh er = er ∙ ap (digest sha512 8) (eh ∙ ap (λ (l : List ℕ). hash_blocks sha512 s.hash (length l / 128) l) ee)
 
--- ---- of a state that holds a message
+-- ____ of a state that holds a message
 
 -- the count goes on within the block, or beyond it
 counts_within : (count k : ℕ) → k < 128 - count % 128 → (count + k) % 2 ^ 64 % 128 ≡ count % 128 + k
@@ -122,7 +122,7 @@ finished_is s m h l =
     length-append part (padding sha512 s.count)
     ∙ ap₂ ◌+◌ (length_part sha512 s.count s.buffer (lit< tt) h.room) (length_padding s.count) in
     holds-end sha512 end (length end) (lit< tt) (ap (padding sha512) (h.counted ∙ mod-eq_of_lt l)) (take-length end) (le_refl (length end))
-    (ap (λ (k : ℕ). k % 128) size ∙ last-whole s.count) (ap (λ (y : List ℕ). hashBlocks sha512 s.hash (length y / 128) y) (sym (take-length end))) refl h
+    (ap (λ (k : ℕ). k % 128) size ∙ last-whole s.count) (ap (λ (y : List ℕ). hash_blocks sha512 s.hash (length y / 128) y) (sym (take-length end))) refl h
 
 pub ends_with : (s : Sha512) {m r : List ℕ} → r ≡ finished s → Holds s m → length m < 2 ^ 64 → r ≡ hash sha512 m
 ends_with s {m} e h l = e ∙ finished_is s m h l

@@ -2,7 +2,7 @@
 -- Assumes nothing.
 use Rattle.std.specs.Prelude.{ℕ, ◌+◌, ◌-◌, ◌*◌, ◌/◌, ◌%◌, ◌^◌, cond, List, ◌++◌, length, take, drop, replicate, nat_lt}
 use Rattle.std.proofs.Math.Seq.{paste}
-use Rattle.sha_2.specs.Sha2.{hashBlocks, digest, padding}
+use Rattle.sha_2.specs.Sha2.{hash_blocks, digest, padding}
 use Rattle.sha_2.specs.Running as running
 use Rattle.sha_2.specs.Sha512.{sha512, initial512}
 use Rattle.sha512.specs.declared.Sha512.{Sha512}
@@ -11,7 +11,7 @@ use Rattle.sha512.specs.declared.Sha512.{Sha512}
 unfoldable pub nothing_taken : Sha512
 nothing_taken = record { hash = initial512; buffer = replicate 128 0; count = 0 }
 
--- ---- any state
+-- ____ any state
 
 -- how many bytes wait in the buffer, and how many more fill it
 abbrev pub waiting : Sha512 → ℕ
@@ -33,7 +33,7 @@ beyond s x =
     let blocks = length rest / 128 in
     let left = drop (blocks * 128) rest in
     record {
-      hash = hashBlocks sha512 (hashBlocks sha512 s.hash 1 block) blocks rest;
+      hash = hash_blocks sha512 (hash_blocks sha512 s.hash 1 block) blocks rest;
       buffer = paste block 0 left (length left);
       count = (s.count + length x) % 2 ^ 64;
     }
@@ -45,9 +45,9 @@ updated s x = cond (nat_lt (length x) (room s)) (within s x) (beyond s x)
 unfoldable pub finished : Sha512 → List ℕ
 finished s =
     let end = take (waiting s) s.buffer ++ padding sha512 s.count in
-    digest sha512 8 (hashBlocks sha512 s.hash (length end / 128) end)
+    digest sha512 8 (hash_blocks sha512 s.hash (length end / 128) end)
 
--- ---- the states that calls make
+-- ____ the states that calls make
 
 -- s has taken in the bytes m
 abbrev pub Holds : Sha512 → List ℕ → Type 0

@@ -1,4 +1,6 @@
 // One block, and all whole blocks of a byte string, taken into the hash value (FIPS 180-4 §6.4.2).
+#![tactic(auto)]
+
 pub mod constants;
 mod functions;
 mod rounds;
@@ -70,7 +72,7 @@ fn compress(hs: [u64; 8], block: &[u8]) -> [u64; 8]
 
 // The whole blocks of m.
 pub fn hash_blocks(hs: [u64; 8], m: &[u8]) -> [u64; 8]
-    ensures { result ≡ sha2.hashBlocks sha512 hs (length m.now / 128) m.now }
+    ensures { result ≡ sha2.hash_blocks sha512 hs (length m.now / 128) m.now }
 {
     let mut h = hs;
     let n = m.len() / 128;

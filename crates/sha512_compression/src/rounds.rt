@@ -22,7 +22,7 @@ pub struct Working {
 }
 
 fn schedule_word(w16: u64, w15: u64, w7: u64, w2: u64) -> u64
-    ensures { result ≡ sha2.scheduleWord sha512 w16 w15 w7 w2 }
+    ensures { result ≡ sha2.schedule_word sha512 w16 w15 w7 w2 }
 {
     wrapping_add_u64(
         wrapping_add_u64(wrapping_add_u64(small_sigma1(w2), w7), small_sigma0(w15)),

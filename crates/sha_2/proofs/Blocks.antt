@@ -1,4 +1,4 @@
--- How whole blocks are taken into a hash value: the laws of `hashBlocks` and `Hashed`.
+-- How whole blocks are taken into a hash value: the laws of `hash_blocks` and `Hashed`.
 -- Assumes nothing.
 use mathlib.Core.Path.{◌≡◌, refl, sym, ap, ap₂, ◌∙◌}
 use mathlib.Core.List.{List, [], ◌++◌, append_assoc, append-nil}
@@ -9,13 +9,13 @@ use native.Mathlib.Omega.{arith}
 use lib.ListN.{length, take, drop, length-append, length-drop}
 use lib.Seq.{drop-append-le, take-append-le, drop-append-add}
 use Rattle.octets.specs.Numbers.{bytes_at}
-use Rattle.sha_2.specs.Sha2.{Sha2, hashBlocks, compress, block_size}
+use Rattle.sha_2.specs.Sha2.{Sha2, hash_blocks, compress, block_size}
 use Rattle.sha_2.specs.Running.{Hashed}
 
 module _ (p : Sha2) where
   -- blocks that lie within a list are those of any longer list
-  pub blocks-within : (hs : List ℕ) (n : ℕ) (a b : List ℕ) → n * block_size p ≤ length a → hashBlocks p hs n (a ++ b) ≡ hashBlocks p hs n a
-  unfolding hashBlocks
+  pub blocks-within : (hs : List ℕ) (n : ℕ) (a b : List ℕ) → n * block_size p ≤ length a → hash_blocks p hs n (a ++ b) ≡ hash_blocks p hs n a
+  unfolding hash_blocks
   blocks-within hs zero a b h = refl
   blocks-within hs (suc n) a b h =
       let B = block_size p in
@@ -27,25 +27,25 @@ module _ (p : Sha2) where
 
   -- first those of a, then those of b
   blocks-append : (hs : List ℕ) (i j : ℕ) (a b : List ℕ) → length a ≡ i * block_size p
-      → hashBlocks p hs (i + j) (a ++ b) ≡ hashBlocks p (hashBlocks p hs i a) j b
-  unfolding hashBlocks
-  blocks-append hs i zero a b e = ap (λ (n : ℕ). hashBlocks p hs n (a ++ b)) (add-zero i) ∙ blocks-within hs i a b (le_of_eq (sym e))
+      → hash_blocks p hs (i + j) (a ++ b) ≡ hash_blocks p (hash_blocks p hs i a) j b
+  unfolding hash_blocks
+  blocks-append hs i zero a b e = ap (λ (n : ℕ). hash_blocks p hs n (a ++ b)) (add-zero i) ∙ blocks-within hs i a b (le_of_eq (sym e))
   blocks-append hs i (suc j) a b e =
       let B = block_size p in
-      ap (λ (n : ℕ). hashBlocks p hs n (a ++ b)) (add-suc i j)
+      ap (λ (n : ℕ). hash_blocks p hs n (a ++ b)) (add-suc i j)
       ∙ ap₂ (λ (x y : List ℕ). compress p x (take B y)) (blocks-append hs i j a b e)
       (ap (λ (n : ℕ). drop n (a ++ b)) (add-mul i j B ∙ ap (λ (n : ℕ). n + j * B) (sym e)) ∙ drop-append-add a b (j * B))
 
   -- a turn of the loop over the blocks of m: `at` is where block i begins
-  pub blocks-turn : (hs m h h' : List ℕ) (i at : ℕ) → h ≡ hashBlocks p hs i m → at ≡ i * block_size p
-      → h' ≡ compress p h (take (at + block_size p - at) (drop at m)) → h' ≡ hashBlocks p hs (i + 1) m
-  unfolding hashBlocks
-  blocks-turn hs m h h' i at e ea eh =
+  pub blocks_turn : (hs m h h' : List ℕ) (i at : ℕ) → h ≡ hash_blocks p hs i m → at ≡ i * block_size p
+      → h' ≡ compress p h (take (at + block_size p - at) (drop at m)) → h' ≡ hash_blocks p hs (i + 1) m
+  unfolding hash_blocks
+  blocks_turn hs m h h' i at e ea eh =
       let q : at + block_size p - at ≡ block_size p = omega arith in
       eh
       ∙ ap₂ (λ (x : List ℕ) (n : ℕ). compress p x (take n (drop at m))) e q
-      ∙ ap (λ (n : ℕ). compress p (hashBlocks p hs i m) (bytes_at n (block_size p) m)) ea
-      ∙ ap (λ (n : ℕ). hashBlocks p hs n m) (sym (add-one i))
+      ∙ ap (λ (n : ℕ). compress p (hash_blocks p hs i m) (bytes_at n (block_size p) m)) ea
+      ∙ ap (λ (n : ℕ). hash_blocks p hs n m) (sym (add-one i))
 
   -- bytes more of a message
   pub hashed-more : {hs part m : List ℕ} (x : List ℕ) → Hashed p hs part m → Hashed p hs (part ++ x) (m ++ x)
@@ -59,7 +59,7 @@ module _ (p : Sha2) where
       }
 
   -- the j blocks a of the bytes past the whole blocks are taken in, and b is left
-  pub hashed-blocks : {hs m : List ℕ} (j : ℕ) (a b : List ℕ) → length a ≡ j * block_size p → Hashed p hs (a ++ b) m → Hashed p (hashBlocks p hs j a) b m
+  pub hashed-blocks : {hs m : List ℕ} (j : ℕ) (a b : List ℕ) → length a ≡ j * block_size p → Hashed p hs (a ++ b) m → Hashed p (hash_blocks p hs j a) b m
   hashed-blocks {hs} {m} j a b e s =
       let n = s.blocks in
       let w = s.whole in
@@ -68,14 +68,14 @@ module _ (p : Sha2) where
         whole = w ++ a;
         joined = s.joined ∙ sym (append_assoc w a b);
         size = length-append w a ∙ ap₂ (λ (x y : ℕ). x + y) s.size e ∙ sym (add-mul n j (block_size p));
-        value = ap (λ (h : List ℕ). hashBlocks p h j a) s.value ∙ sym (blocks-append p.initial n j w a s.size);
+        value = ap (λ (h : List ℕ). hash_blocks p h j a) s.value ∙ sym (blocks-append p.initial n j w a s.size);
       }
 
   -- nothing is left
-  pub hashed-whole : {hs m : List ℕ} → 0 < block_size p → Hashed p hs [] m → hs ≡ hashBlocks p p.initial (length m / block_size p) m
+  pub hashed-whole : {hs m : List ℕ} → 0 < block_size p → Hashed p hs [] m → hs ≡ hash_blocks p p.initial (length m / block_size p) m
   hashed-whole {hs} {m} b s =
       let em : m ≡ s.whole = s.joined ∙ append-nil s.whole in
       s.value
-      ∙ ap₂ (λ (k : ℕ) (l : List ℕ). hashBlocks p p.initial k l)
+      ∙ ap₂ (λ (k : ℕ) (l : List ℕ). hash_blocks p p.initial k l)
       (sym (ap (λ (l : List ℕ). length l / block_size p) em ∙ ap (λ (k : ℕ). k / block_size p) s.size ∙ mul-div_cancel s.blocks b))
       (sym em)

@@ -6,7 +6,7 @@ use native.Mathlib.Nat.{mod-lt, zero-lt-suc, div-add-mod', pow-suc, min-le_left,
 use native.Mathlib.Omega.{arith}
 use lib.Arith.{digits_mod, lt-one}
 use lib.Bits.{bit_xor, bit_and, differ, xor_shr, and_shr, and_step}
-use Rattle.octets.proofs.BitXor.{xor-odd}
+use Rattle.octets.proofs.BitXor.{xor_odd}
 use Rattle.sha_2.specs.Sha2.{ch}
 
 two_pos : zero < 2
@@ -57,11 +57,11 @@ ch_eq (suc w) x y z hx hy hz =
     let lh : l / 2 ≡ bit_xor (bit_and (bit_xor (y / 2) (z / 2)) (x / 2)) (z / 2) =
     xor_shr (bit_and (bit_xor y z) x) z 1 ∙ ap (λ (i : ℕ). bit_xor i (z / 2)) (and_shr (bit_xor y z) x 1 ∙ ap (λ (i : ℕ). bit_and i (x / 2)) (xor_shr y z 1)) in
     let lo : l % 2 ≡ differ (min (differ (y % 2) (z % 2)) (x % 2)) (z % 2) =
-    xor-odd (bit_and (bit_xor y z) x) z ∙ ap (λ (i : ℕ). differ i (z % 2)) (and_odd (bit_xor y z) x ∙ ap (λ (i : ℕ). min i (x % 2)) (xor-odd y z)) in
+    xor_odd (bit_and (bit_xor y z) x) z ∙ ap (λ (i : ℕ). differ i (z % 2)) (and_odd (bit_xor y z) x ∙ ap (λ (i : ℕ). min i (x % 2)) (xor_odd y z)) in
     let rh : r / 2 ≡ bit_xor (bit_and (x / 2) (y / 2)) (bit_and (m - 1 - x / 2) (z / 2)) =
     xor_shr (bit_and x y) (bit_and v z) 1 ∙ ap₂ bit_xor (and_shr x y 1) (and_shr v z 1 ∙ ap (λ (i : ℕ). bit_and i (z / 2)) vh) in
     let ro : r % 2 ≡ differ (min (x % 2) (y % 2)) (min (1 - x % 2) (z % 2)) =
-    xor-odd (bit_and x y) (bit_and v z) ∙ ap₂ differ (and_odd x y) (and_odd v z ∙ ap (λ (i : ℕ). min i (z % 2)) vo) in
+    xor_odd (bit_and x y) (bit_and v z) ∙ ap₂ differ (and_odd x y) (and_odd v z ∙ ap (λ (i : ℕ). min i (z % 2)) vo) in
     sym (div-add-mod' l 2)
     ∙ ap₂ (λ (i j : ℕ). i * 2 + j)
     (lh ∙ ch_eq w (x / 2) (y / 2) (z / 2) (half w x hx) (half w y hy) (half w z hz) ∙ sym rh)

@@ -8,13 +8,13 @@ use native.Mathlib.Omega.{arith}
 use lib.ListN.{length, get_or, take, drop, set, length-set}
 use lib.Seq.{paste}
 use Rattle.octets.specs.Numbers.{big_endian, to_big_endian, bytes_at}
-use Rattle.sha_2.specs.Sha2.{Sha2, Working, block_size, parse, extended, rounds, compress, hashBlocks, digest}
+use Rattle.sha_2.specs.Sha2.{Sha2, Working, block_size, parse, extended, rounds, compress, hash_blocks, digest}
 use Rattle.sha_2.specs.Running.{Going, Goes}
-use Rattle.sha_2.proofs.Words.{parse-turn, digest-turn, digest-done}
-use Rattle.sha_2.proofs.Rounds.{goes-start, goes-full}
-use Rattle.sha_2.proofs.Blocks.{blocks-turn}
+use Rattle.sha_2.proofs.Words.{parse_turn, digest_turn, digest-done}
+use Rattle.sha_2.proofs.Rounds.{goes-start, goes_full}
+use Rattle.sha_2.proofs.Blocks.{blocks_turn}
 
--- ---- the words of a block, one a turn
+-- ____ the words of a block, one a turn
 
 pub record Parsing (p : Sha2) (block w : List ℕ) (i : ℕ) : Type 0 where
   pub bound : i ≤ 16
@@ -22,25 +22,25 @@ pub record Parsing (p : Sha2) (block w : List ℕ) (i : ℕ) : Type 0 where
   pub words : take i w ≡ parse p i block
 
 module _ (p : Sha2) where
-  pub parsing-start : (block w : List ℕ) → length w ≡ 16 + p.further → Parsing p block w 0
+  pub parsing_start : (block w : List ℕ) → length w ≡ 16 + p.further → Parsing p block w 0
   unfolding parse
-  parsing-start block w e = record { bound = omega arith; size = e; words = refl }
+  parsing_start block w e = record { bound = omega arith; size = e; words = refl }
 
-  pub parsing-turn : {block w : List ℕ} {i x : ℕ} → Parsing p block w i → i < 16 → x ≡ big_endian (bytes_at (i * p.bytes) p.bytes block)
+  pub parsing_turn : {block w : List ℕ} {i x : ℕ} → Parsing p block w i → i < 16 → x ≡ big_endian (bytes_at (i * p.bytes) p.bytes block)
       → Parsing p block (set w i x) (i + 1)
-  parsing-turn {block} {w} {i} {x} s h e =
+  parsing_turn {block} {w} {i} {x} s h e =
       record {
         bound = omega arith;
         size = length-set w i x ∙ s.size;
-        words = parse-turn p block w i x s.words (omega (arith, s.size)) e;
+        words = parse_turn p block w i x s.words (omega (arith, s.size)) e;
       }
 
-  pub parsing-end : {block w : List ℕ} {i : ℕ} → Parsing p block w i → 16 ≤ i → (length w ≡ 16 + p.further) × (take 16 w ≡ parse p 16 block)
-  parsing-end {block} {w} {i} s h =
+  pub parsing_end : {block w : List ℕ} {i : ℕ} → Parsing p block w i → 16 ≤ i → (length w ≡ 16 + p.further) × (take 16 w ≡ parse p 16 block)
+  parsing_end {block} {w} {i} s h =
       let e : i ≡ 16 = omega (arith, s.bound) in
       (s.size, rw e at s.words)
 
--- ---- the rounds that extend the schedule, eight a turn
+-- ____ the rounds that extend the schedule, eight a turn
 
 pub record First (p : Sha2) (w₀ k : List ℕ) (x : Working) (w : List ℕ) (v : Working) (j : ℕ) : Type 0 where
   pub bound : j ≤ p.further
@@ -54,15 +54,15 @@ module _ (p : Sha2) where
   first-start w k x e ek = record { bound = omega arith; eighths = refl; constants = ek; size = e; going = goes-start p w x e }
 
   -- what eight rounds ask
-  pub first-asks : {w₀ k w : List ℕ} {x v : Working} {j : ℕ} → p.further % 8 ≡ 0 → First p w₀ k x w v j → j < p.further
+  pub first_asks : {w₀ k w : List ℕ} {x v : Working} {j : ℕ} → p.further % 8 ≡ 0 → First p w₀ k x w v j → j < p.further
       → (j + 8 ≤ p.further) × (length w ≡ 16 + p.further) × (k ≡ p.constants)
-  first-asks e s h = (omega (arith, s.eighths), s.size, s.constants)
+  first_asks e s h = (omega (arith, s.eighths), s.size, s.constants)
 
-  pub first-turn : {w₀ k w w' : List ℕ} {x v v' : Working} {j : ℕ} → p.further % 8 ≡ 0 → First p w₀ k x w v j → j < p.further
+  pub first_turn : {w₀ k w w' : List ℕ} {x v v' : Working} {j : ℕ} → p.further % 8 ≡ 0 → First p w₀ k x w v j → j < p.further
       → length w' ≡ 16 + p.further → Goes p 8 j w v w' v' → First p w₀ k x w' v' (j + 8)
-  first-turn e s h size g =
+  first_turn e s h size g =
       record {
-        bound = (first-asks e s h).0;
+        bound = (first_asks e s h).0;
         eighths = omega (arith, s.eighths);
         constants = s.constants;
         size = size;
@@ -73,36 +73,36 @@ module _ (p : Sha2) where
       → (length w ≡ 16 + p.further) × (w ≡ extended p p.further (take 16 w₀)) × (v ≡ rounds p w p.further x)
   first-end {w₀} {k} {w} {x} {v} {j} s h =
       let e : j ≡ p.further = omega (arith, s.bound) in
-      let g = goes-full p (take 16 w₀) w x v j s.size e s.going in
+      let g = goes_full p (take 16 w₀) w x v j s.size e s.going in
       (s.size, g.0, g.1)
 
--- ---- the whole blocks of a byte string, one a turn
+-- ____ the whole blocks of a byte string, one a turn
 
 pub record Taking (p : Sha2) (hs m : List ℕ) (n : ℕ) (h : List ℕ) (i : ℕ) : Type 0 where
   pub bound : i ≤ n
   pub count : n ≡ length m / block_size p
-  pub value : h ≡ hashBlocks p hs i m
+  pub value : h ≡ hash_blocks p hs i m
 
 module _ (p : Sha2) where
-  pub taking-start : (hs m : List ℕ) → Taking p hs m (length m / block_size p) hs 0
-  unfolding hashBlocks
-  taking-start hs m = record { bound = omega arith; count = refl; value = refl }
+  pub taking_start : (hs m : List ℕ) → Taking p hs m (length m / block_size p) hs 0
+  unfolding hash_blocks
+  taking_start hs m = record { bound = omega arith; count = refl; value = refl }
 
-  pub taking-turn : {hs m h h' : List ℕ} {n i : ℕ} → Taking p hs m n h i → i < n
+  pub taking_turn : {hs m h h' : List ℕ} {n i : ℕ} → Taking p hs m n h i → i < n
       → h' ≡ compress p h (take (i * block_size p + block_size p - i * block_size p) (drop (i * block_size p) m)) → Taking p hs m n h' (i + 1)
-  taking-turn {hs} {m} {h} {h'} {n} {i} s l e =
+  taking_turn {hs} {m} {h} {h'} {n} {i} s l e =
       record {
         bound = omega arith;
         count = s.count;
-        value = blocks-turn p hs m h h' i (i * block_size p) s.value refl e;
+        value = blocks_turn p hs m h h' i (i * block_size p) s.value refl e;
       }
 
-  pub taking-end : {hs m h : List ℕ} {n i : ℕ} → Taking p hs m n h i → n ≤ i → h ≡ hashBlocks p hs (length m / block_size p) m
-  taking-end {hs} {m} {h} {n} {i} s l =
+  pub taking_end : {hs m h : List ℕ} {n i : ℕ} → Taking p hs m n h i → n ≤ i → h ≡ hash_blocks p hs (length m / block_size p) m
+  taking_end {hs} {m} {h} {n} {i} s l =
       let e : i ≡ n = omega (arith, s.bound) in
-      s.value ∙ ap (λ (j : ℕ). hashBlocks p hs j m) (e ∙ s.count)
+      s.value ∙ ap (λ (j : ℕ). hash_blocks p hs j m) (e ∙ s.count)
 
--- ---- the words of the digest, one a turn
+-- ____ the words of the digest, one a turn
 
 pub record Digesting (p : Sha2) (hs out : List ℕ) (i : ℕ) : Type 0 where
   pub bound : i ≤ 8
@@ -110,19 +110,19 @@ pub record Digesting (p : Sha2) (hs out : List ℕ) (i : ℕ) : Type 0 where
   pub words : take (i * p.bytes) out ≡ digest p i hs
 
 module _ (p : Sha2) where
-  pub digesting-start : (hs out : List ℕ) → length out ≡ 8 * p.bytes → Digesting p hs out 0
+  pub digesting_start : (hs out : List ℕ) → length out ≡ 8 * p.bytes → Digesting p hs out 0
   unfolding digest
-  digesting-start hs out e = record { bound = omega arith; size = e; words = ap (λ (n : ℕ). take n out) (zero-mul p.bytes) }
+  digesting_start hs out e = record { bound = omega arith; size = e; words = ap (λ (n : ℕ). take n out) (zero-mul p.bytes) }
 
-  pub digesting-turn : {hs out out' b : List ℕ} {i : ℕ} → Digesting p hs out i → (i + 1) * p.bytes ≤ 8 * p.bytes
+  pub digesting_turn : {hs out out' b : List ℕ} {i : ℕ} → Digesting p hs out i → (i + 1) * p.bytes ≤ 8 * p.bytes
       → i < 8 → b ≡ to_big_endian p.bytes (get_or hs i 0) → out' ≡ paste out (i * p.bytes) b (length b) → length out' ≡ length out
       → Digesting p hs out' (i + 1)
-  digesting-turn {hs} {out} {out'} {b} {i} s r l eb eo el =
+  digesting_turn {hs} {out} {out'} {b} {i} s r l eb eo el =
       record {
         bound = omega arith;
         size = el ∙ s.size;
-        words = digest-turn p hs out out' b i s.words eb (omega (arith, s.size)) eo;
+        words = digest_turn p hs out out' b i s.words eb (omega (arith, s.size)) eo;
       }
 
-  pub digesting-end : {hs out : List ℕ} {i : ℕ} → Digesting p hs out i → 8 ≤ i → out ≡ digest p 8 hs
-  digesting-end {hs} {out} {i} s l = digest-done p hs out i 8 s.words (omega (arith, s.bound)) s.size
+  pub digesting_end : {hs out : List ℕ} {i : ℕ} → Digesting p hs out i → 8 ≤ i → out ≡ digest p 8 hs
+  digesting_end {hs} {out} {i} s l = digest-done p hs out i 8 s.words (omega (arith, s.bound)) s.size

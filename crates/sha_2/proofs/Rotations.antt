@@ -66,8 +66,8 @@ module _ (w : ℕ) where
       let q : w ≡ k + n = omega arith in
       ap (λ (i : ℕ). rotr i n x) e ∙ rotr_turned n k x (rw q at h)
 
-  rotr-lt : (n k x : ℕ) → w ≡ n + k → x < 2 ^ w → rotr w n x < 2 ^ w
-  rotr-lt n k x e h =
+  rotr_lt : (n k x : ℕ) → w ≡ n + k → x < 2 ^ w → rotr w n x < 2 ^ w
+  rotr_lt n k x e h =
       let q : w ≡ k + n = omega arith in
       let b : turned n k x < 2 ^ w = rw q (turned_lt n k x (rw q at h)) in
       subst (λ (i : ℕ). i < 2 ^ w) (sym (rotr-is n k x e h)) b
@@ -83,13 +83,13 @@ module _ (w : ℕ) where
   rotr-rotr a b c x e h =
       let ea : w ≡ a + (b + c) = omega arith in
       let eb : w ≡ b + (c + a) = omega arith in
-      rotr-is a (b + c) (rotr w b x) ea (rotr-lt b (c + a) x eb h)
+      rotr-is a (b + c) (rotr w b x) ea (rotr_lt b (c + a) x eb h)
       ∙ ap (turned a (b + c)) (rotr-is b (c + a) x eb h)
       ∙ turned_turned a b c x
       ∙ sym (rotr-is (a + b) c x e h)
 
-  xor-reversed : (x y z : ℕ) → bit_xor (bit_xor x y) z ≡ bit_xor (bit_xor z y) x
-  xor-reversed x y z = xor_comm (bit_xor x y) z ∙ ap (λ (i : ℕ). bit_xor z i) (xor_comm x y) ∙ sym (xor_assoc z y x)
+  xor_reversed : (x y z : ℕ) → bit_xor (bit_xor x y) z ≡ bit_xor (bit_xor z y) x
+  xor_reversed x y z = xor_comm (bit_xor x y) z ∙ ap (λ (i : ℕ). bit_xor z i) (xor_comm x y) ∙ sym (xor_assoc z y x)
 
   -- Σ by way of the differences of its amounts
   pub folded : (a b c d x : ℕ) → w ≡ a + b + c + d → x < 2 ^ w
@@ -100,13 +100,13 @@ module _ (w : ℕ) where
       let q3 : w ≡ a + (b + c + d) = omega arith in
       let q4 : w ≡ a + b + (c + d) = omega arith in
       let u = rotr w c x in
-      let hu = rotr-lt c (a + b + d) x q1 h in
+      let hu = rotr_lt c (a + b + d) x q1 h in
       let y = bit_xor u x in
       let hy = xor_lt w u x hu h in
       let v = rotr w b y in
-      rotr-xor a (b + c + d) v x q3 (rotr-lt b (a + c + d) y q2 hy) h
+      rotr-xor a (b + c + d) v x q3 (rotr_lt b (a + c + d) y q2 hy) h
       ∙ ap (λ (i : ℕ). bit_xor i (rotr w a x))
       (rotr-rotr a b (c + d) y q4 hy
       ∙ rotr-xor (a + b) (c + d) u x q4 hu h
       ∙ ap (λ (i : ℕ). bit_xor i (rotr w (a + b) x)) (rotr-rotr (a + b) c d x e h))
-      ∙ xor-reversed (rotr w (a + b + c) x) (rotr w (a + b) x) (rotr w a x)
+      ∙ xor_reversed (rotr w (a + b + c) x) (rotr w (a + b) x) (rotr w a x)

@@ -8,7 +8,7 @@ use native.Mathlib.Numerals.{add-one}
 use native.Mathlib.Omega.{arith}
 use lib.ListN.{length, get_or, take, set, length-append, get_or-append}
 use lib.Seq.{get_or-take, get_or-set_other, take-suc-set, take-length, length-take-le}
-use Rattle.sha_2.specs.Sha2.{Sha2, Working, extended, scheduleWord, rounds, round, parse, schedule, compress, sums, working}
+use Rattle.sha_2.specs.Sha2.{Sha2, Working, extended, schedule_word, rounds, round, parse, schedule, compress, sums, working}
 use Rattle.sha_2.specs.Running.{Going, Goes}
 
 module _ (p : Sha2) where
@@ -18,22 +18,22 @@ module _ (p : Sha2) where
   length-extended m (suc n) = length-append (extended p n m) _ ∙ ap (λ (x : ℕ). x + 1) (length-extended m n) ∙ omega arith
 
   -- words that are there stay
-  extended-keeps : (m : List ℕ) (n k i : ℕ) → i < length m + n → get_or (extended p (n + k) m) i 0 ≡ get_or (extended p n m) i 0
+  extended_keeps : (m : List ℕ) (n k i : ℕ) → i < length m + n → get_or (extended p (n + k) m) i 0 ≡ get_or (extended p n m) i 0
   unfolding extended
-  extended-keeps m n zero i h = rw add-zero
-  extended-keeps m n (suc k) i h =
+  extended_keeps m n zero i h = rw add-zero
+  extended_keeps m n (suc k) i h =
       rw add-suc
-      (get_or-append (extended p (n + k) m) _ 0 i (omega (arith, length-extended m (n + k))) ∙ extended-keeps m n k i h)
+      (get_or-append (extended p (n + k) m) _ 0 i (omega (arith, length-extended m (n + k))) ∙ extended_keeps m n k i h)
 
   -- a word more of the schedule, in the array that holds it
   word_more : (m w : List ℕ) (j : ℕ) → length m ≡ 16 → j + 16 < length w → take (j + 16) w ≡ extended p j m
-      → take ((j + 1) + 16) (set w (j + 16) (scheduleWord p (get_or w j 0) (get_or w (j + 1) 0) (get_or w (j + 9) 0) (get_or w (j + 14) 0))) ≡ extended p (j + 1) m
+      → take ((j + 1) + 16) (set w (j + 16) (schedule_word p (get_or w j 0) (get_or w (j + 1) 0) (get_or w (j + 9) 0) (get_or w (j + 14) 0))) ≡ extended p (j + 1) m
   unfolding extended
   word_more m w j e h g =
       let at : (q : ℕ) → q < 16 → get_or w (j + q) 0 ≡ get_or (extended p j m) (j + q) 0 =
       λ q hq. sym (get_or-take (j + 16) w (j + q) 0 (omega arith)) ∙ ap (λ (l : List ℕ). get_or l (j + q) 0) g in
       let at0 : get_or w j 0 ≡ get_or (extended p j m) j 0 = sym (get_or-take (j + 16) w j 0 (omega arith)) ∙ ap (λ (l : List ℕ). get_or l j 0) g in
-      let x = scheduleWord p (get_or w j 0) (get_or w (j + 1) 0) (get_or w (j + 9) 0) (get_or w (j + 14) 0) in
+      let x = schedule_word p (get_or w j 0) (get_or w (j + 1) 0) (get_or w (j + 9) 0) (get_or w (j + 14) 0) in
       let e1 : (j + 1) + 16 ≡ suc (j + 16) = omega arith in
       ap (λ (n : ℕ). take n (set w (j + 16) x)) e1
       ∙ take-suc-set w (j + 16) x h
@@ -46,7 +46,7 @@ module _ (p : Sha2) where
       let q : j + (p.further - j) ≡ p.further = omega arith in
       sym (get_or-take (j + 16) w j 0 (omega arith))
       ∙ ap (λ (l : List ℕ). get_or l j 0) g
-      ∙ sym (extended-keeps m j (p.further - j) j (omega arith))
+      ∙ sym (extended_keeps m j (p.further - j) j (omega arith))
       ∙ ap (λ (n : ℕ). get_or (extended p n m) j 0) q
 
   -- a round more
@@ -56,14 +56,14 @@ module _ (p : Sha2) where
   round-more ws constants j v v' x ev ek e = e ∙ rw (add-one, ev, ek)
 
   -- two rounds more
-  pub two-more : (ws : List ℕ) (j : ℕ) {constants : List ℕ} {v v' v'' : Working} → constants ≡ p.constants → v' ≡ round p (get_or constants j 0) (get_or ws j 0) v
+  pub two_more : (ws : List ℕ) (j : ℕ) {constants : List ℕ} {v v' v'' : Working} → constants ≡ p.constants → v' ≡ round p (get_or constants j 0) (get_or ws j 0) v
       → v'' ≡ round p (get_or constants (j + 1) 0) (get_or ws (j + 1) 0) v' → (x : Working) → v ≡ rounds p ws j x → v'' ≡ rounds p ws (j + 2) x
-  two-more ws j {constants} {v} {v'} {v''} ek e₁ e₂ x e =
+  two_more ws j {constants} {v} {v'} {v''} ek e₁ e₂ x e =
       round-more ws constants (j + 1) v' v'' x (round-more ws constants j v v' x e ek e₁) ek e₂ ∙ ap (λ (i : ℕ). rounds p ws i x) (add_assoc j 1 1)
 
   -- round j, and the word of the schedule sixteen places on
   pub goes_one : {constants w : List ℕ} {j y : ℕ} {v v' : Working} → j < p.further → length w ≡ 16 + p.further → constants ≡ p.constants
-      → y ≡ scheduleWord p (get_or w j 0) (get_or w (j + 1) 0) (get_or w (j + 9) 0) (get_or w (j + 14) 0)
+      → y ≡ schedule_word p (get_or w j 0) (get_or w (j + 1) 0) (get_or w (j + 9) 0) (get_or w (j + 14) 0)
       → v' ≡ round p (get_or constants j 0) (get_or (set w (j + 16) y) j 0) v
       → Goes p 1 j w v (set w (j + 16) y) v'
   goes_one {constants} {w} {j} {y} {v} {v'} h size ek ey ev = record {
@@ -90,9 +90,9 @@ module _ (p : Sha2) where
       record { block = length-take-le 16 w (omega arith); words = refl; state = refl }
 
   -- the array is full: it is the schedule
-  pub goes-full : (m w : List ℕ) (x v : Working) (j : ℕ) → length w ≡ 16 + p.further → j ≡ p.further → Going p m x w v j
+  pub goes_full : (m w : List ℕ) (x v : Working) (j : ℕ) → length w ≡ 16 + p.further → j ≡ p.further → Going p m x w v j
       → (w ≡ extended p p.further m) × (v ≡ rounds p w p.further x)
-  goes-full m w x v j size e g =
+  goes_full m w x v j size e g =
       let l : length w ≡ j + 16 = omega arith in
       let ew : w ≡ extended p p.further m =
       sym (take-length w) ∙ ap (λ (n : ℕ). take n w) l ∙ g.words ∙ ap (λ (n : ℕ). extended p n m) e in

@@ -8,7 +8,7 @@ use native.Mathlib.Omega.{arith}
 use lib.ListN.{length, take, drop, length-append, length-drop, take-append-drop}
 use lib.Seq.{paste, take-paste, take-length, length-take-le}
 use Rattle.octets.proofs.Paste.{paste_all, part_all}
-use Rattle.sha_2.specs.Sha2.{Sha2, block_size, hashBlocks, digest, padding, pad, hash}
+use Rattle.sha_2.specs.Sha2.{Sha2, block_size, hash_blocks, digest, padding, pad, hash}
 use Rattle.sha_2.specs.Running.{Hashed, Holds}
 use Rattle.sha_2.proofs.Blocks.{blocks-within, hashed-more, hashed-blocks, hashed-whole}
 
@@ -37,7 +37,7 @@ module _ (p : Sha2) where
       e ∙ counts count (length m) (length x) s.counted ∙ ap (λ (n : ℕ). n % 2 ^ 64) (sym (length-append m x))
 
   pub holds-start : (buffer hs : List ℕ) → length buffer ≡ B → hs ≡ p.initial → Holds p 0 buffer hs []
-  unfolding hashBlocks
+  unfolding hash_blocks
   holds-start buffer hs e eh =
       record {
         counted = refl;
@@ -72,7 +72,7 @@ module _ (p : Sha2) where
       let x₃ : List ℕ = from x₂ (length x₂ / B * B) in
       0 < B → count' ≡ (count + length x) % 2 ^ 64 → count' % B ≡ (length x - room) % B → room ≤ length x
       → buffer₁ ≡ paste buffer (count % B) x₁ (length x₁) → length buffer₁ ≡ B
-      → hs₁ ≡ hashBlocks p hs (length buffer₁ / B) buffer₁ → hs₂ ≡ hashBlocks p hs₁ (length x₂ / B) x₂
+      → hs₁ ≡ hash_blocks p hs (length buffer₁ / B) buffer₁ → hs₂ ≡ hash_blocks p hs₁ (length x₂ / B) x₂
       → buffer₂ ≡ paste buffer₁ 0 x₃ (length x₃) → length buffer₂ ≡ B
       → Holds p count buffer hs m → Holds p count' buffer₂ hs₂ (m ++ x)
   holds-beyond {count} {buffer} {hs} {m} {buffer₁} {buffer₂} {hs₁} {hs₂} {count'} x pos ec en hr eb₁ lb₁ eh₁ eh₂ eb₂ lb₂ s =
@@ -105,10 +105,10 @@ module _ (p : Sha2) where
       let hw : whole ≤ length x₂ = omega arith in
       let lw : length (take whole x₂) ≡ q * B = length-take-le whole x₂ hw in
       let j₂ : take whole x₂ ++ x₃ ≡ x₂ = ap (λ (l : List ℕ). take whole x₂ ++ l) d₃ ∙ take-append-drop whole x₂ in
-      let s₄ : Hashed p (hashBlocks p hs₁ q (take whole x₂)) x₃ ((m ++ x₁) ++ x₂) =
+      let s₄ : Hashed p (hash_blocks p hs₁ q (take whole x₂)) x₃ ((m ++ x₁) ++ x₂) =
       hashed-blocks p q (take whole x₂) x₃ lw (subst (λ (l : List ℕ). Hashed p hs₁ l ((m ++ x₁) ++ x₂)) (sym j₂) s₃) in
-      let v₂ : hashBlocks p hs₁ q (take whole x₂) ≡ hs₂ =
-      sym (eh₂ ∙ ap (λ (l : List ℕ). hashBlocks p hs₁ q l) (sym j₂) ∙ blocks-within p hs₁ q (take whole x₂) x₃ (le_of_eq (sym lw))) in
+      let v₂ : hash_blocks p hs₁ q (take whole x₂) ≡ hs₂ =
+      sym (eh₂ ∙ ap (λ (l : List ℕ). hash_blocks p hs₁ q l) (sym j₂) ∙ blocks-within p hs₁ q (take whole x₂) x₃ (le_of_eq (sym lw))) in
       -- what is left stands in the buffer
       let f₂ : take (count' % B) buffer₂ ≡ x₃ =
       ap (λ (l : List ℕ). take (count' % B) l) eb₂
@@ -126,7 +126,7 @@ module _ (p : Sha2) where
   -- the last bytes with their padding, in the first `end` bytes of t
   pub holds-end : {count : ℕ} {buffer hs m hs' r : List ℕ} (t : List ℕ) (end : ℕ) → 0 < B → padding p count ≡ padding p (length m)
       → take end t ≡ take (count % B) buffer ++ padding p count → end ≤ length t → end % B ≡ 0
-      → hs' ≡ hashBlocks p hs (length (take end t) / B) (take end t) → r ≡ digest p 8 hs' → Holds p count buffer hs m → r ≡ hash p m
+      → hs' ≡ hash_blocks p hs (length (take end t) / B) (take end t) → r ≡ digest p 8 hs' → Holds p count buffer hs m → r ≡ hash p m
   unfolding hash pad
   holds-end {count} {buffer} {hs} {m} {hs'} {r} t end pos epad et le ee eh er s =
       let x = padding p (length m) in

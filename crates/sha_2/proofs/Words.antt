@@ -14,21 +14,21 @@ use Rattle.sha_2.specs.Sha2.{Sha2, parse, digest}
 
 module _ (p : Sha2) where
   -- the word i of the block, stored
-  pub parse-turn : (block w : List ℕ) (i x : ℕ) → take i w ≡ parse p i block → i < length w → x ≡ big_endian (bytes_at (i * p.bytes) p.bytes block)
+  pub parse_turn : (block w : List ℕ) (i x : ℕ) → take i w ≡ parse p i block → i < length w → x ≡ big_endian (bytes_at (i * p.bytes) p.bytes block)
       → take (i + 1) (set w i x) ≡ parse p (i + 1) block
   unfolding parse
-  parse-turn block w i x e h ex =
+  parse_turn block w i x e h ex =
       ap (λ (n : ℕ). take n (set w i x)) (add-one i)
       ∙ take-suc-set w i x h
       ∙ ap₂ (λ (l : List ℕ) (y : ℕ). l ++ (y ∷ [])) e ex
       ∙ ap (λ (n : ℕ). parse p n block) (sym (add-one i))
 
   -- the bytes of word i, copied
-  pub digest-turn : (hs out out' b : List ℕ) (i : ℕ) → take (i * p.bytes) out ≡ digest p i hs → b ≡ to_big_endian p.bytes (get_or hs i 0)
+  pub digest_turn : (hs out out' b : List ℕ) (i : ℕ) → take (i * p.bytes) out ≡ digest p i hs → b ≡ to_big_endian p.bytes (get_or hs i 0)
       → (i + 1) * p.bytes ≤ length out → out' ≡ paste out (i * p.bytes) b (length b)
       → take ((i + 1) * p.bytes) out' ≡ digest p (i + 1) hs
   unfolding digest
-  digest-turn hs out out' b i e eb h eo =
+  digest_turn hs out out' b i e eb h eo =
       let k = p.bytes in
       let lb : length b ≡ k = ap length eb ∙ length-to_big_endian k (get_or hs i 0) in
       let s : (i + 1) * k ≡ i * k + k = ap (λ (n : ℕ). n * k) (add-one i) ∙ suc-mul i k in

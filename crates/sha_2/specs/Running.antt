@@ -1,7 +1,7 @@
 -- What the contracts of the code need and FIPS 180-4 does not have: a hash under way, and the rounds of a block under way.
 -- Assumes nothing.
 use Rattle.std.specs.Prelude.{◌≡◌, List, ◌++◌, ℕ, ◌+◌, ◌*◌, ◌%◌, ◌^◌, length, take}
-use Rattle.sha_2.specs.Sha2.{Sha2, Working, block_size, hashBlocks, extended, rounds}
+use Rattle.sha_2.specs.Sha2.{Sha2, Working, block_size, hash_blocks, extended, rounds}
 
 -- hs is the hash value after the whole blocks of m, and part is the bytes past them
 pub record Hashed (p : Sha2) (hs part m : List ℕ) : Type 0 where
@@ -9,7 +9,7 @@ pub record Hashed (p : Sha2) (hs part m : List ℕ) : Type 0 where
   pub whole : List ℕ
   pub joined : m ≡ whole ++ part
   pub size : length whole ≡ blocks * block_size p
-  pub value : hs ≡ hashBlocks p p.initial blocks whole
+  pub value : hs ≡ hash_blocks p p.initial blocks whole
 
 -- a count of bytes, a buffer of one block and a hash value hold what is needed of the message m so far.
 -- The count is a u64; the bytes past the whole blocks stand first in the buffer

@@ -4,7 +4,7 @@ use Rattle.std.specs.Prelude.{List, [], ◌∷◌, ◌++◌, ℕ, zero, suc, ◌
 use Rattle.std.specs.Int.Bits.{bit_and, bit_or, bit_xor}
 use Rattle.octets.specs.Numbers.{big_endian, to_big_endian, bytes_at}
 
--- ---- §3.2: operations on words of w bits
+-- ____ §3.2: operations on words of w bits
 
 -- §3.2.1: addition modulo 2^w
 abbrev pub add : ℕ → ℕ → ℕ → ℕ
@@ -22,7 +22,7 @@ shr n x = x / 2 ^ n
 abbrev pub complement : ℕ → ℕ → ℕ
 complement w x = (2 ^ w - 1) - x
 
--- ---- §4.1.2, §4.1.3: functions
+-- ____ §4.1.2, §4.1.3: functions
 
 abbrev pub ch : ℕ → ℕ → ℕ → ℕ → ℕ
 ch w x y z = bit_xor (bit_and x y) (bit_and (complement w x) z)
@@ -67,7 +67,7 @@ bits p = 8 * p.bytes
 abbrev pub block_size : Sha2 → ℕ
 block_size p = 16 * p.bytes
 
--- ---- §5: preprocessing
+-- ____ §5: preprocessing
 
 module _ (p : Sha2) where
   -- §5.1.1, §5.1.2: how many zero bytes follow the byte 128 behind a message of n bytes, so that with the length the last block is full
@@ -87,7 +87,7 @@ module _ (p : Sha2) where
   parse zero block = []
   parse (suc n) block = parse n block ++ (big_endian (bytes_at (n * p.bytes) p.bytes block) ∷ [])
 
--- ---- §6.2.2, §6.4.2: hash computation
+-- ____ §6.2.2, §6.4.2: hash computation
 
 -- the eight working variables
 pub record Working : Type 0 where
@@ -102,8 +102,8 @@ pub record Working : Type 0 where
 
 module _ (p : Sha2) where
   -- step 1: a word of the schedule, from those 16, 15, 7 and 2 places before it
-  unfoldable pub scheduleWord : ℕ → ℕ → ℕ → ℕ → ℕ
-  scheduleWord w16 w15 w7 w2 =
+  unfoldable pub schedule_word : ℕ → ℕ → ℕ → ℕ → ℕ
+  schedule_word w16 w15 w7 w2 =
       add (bits p) (add (bits p) (add (bits p) (small_sigma (bits p) p.small_sigma1 w2) w7) (small_sigma (bits p) p.small_sigma0 w15)) w16
 
   -- the words of a block and n more of the schedule
@@ -111,7 +111,7 @@ module _ (p : Sha2) where
   extended zero words = words
   extended (suc n) words =
       let ws = extended n words in
-      ws ++ (scheduleWord (get_or ws n 0) (get_or ws (n + 1) 0) (get_or ws (n + 9) 0) (get_or ws (n + 14) 0) ∷ [])
+      ws ++ (schedule_word (get_or ws n 0) (get_or ws (n + 1) 0) (get_or ws (n + 9) 0) (get_or ws (n + 14) 0) ∷ [])
 
   unfoldable pub schedule : List ℕ → List ℕ
   schedule block = extended p.further (parse p 16 block)
@@ -175,9 +175,9 @@ module _ (p : Sha2) where
   compress hs block = sums hs (rounds p (schedule p block) (16 + p.further) (working hs))
 
   -- H(n), where the hash value was hs before the first block
-  unfoldable pub hashBlocks : List ℕ → ℕ → List ℕ → List ℕ
-  hashBlocks hs zero m = hs
-  hashBlocks hs (suc n) m = compress (hashBlocks hs n m) (bytes_at (n * block_size p) (block_size p) m)
+  unfoldable pub hash_blocks : List ℕ → ℕ → List ℕ → List ℕ
+  hash_blocks hs zero m = hs
+  hash_blocks hs (suc n) m = compress (hash_blocks hs n m) (bytes_at (n * block_size p) (block_size p) m)
 
   -- the first n words of a hash value, joined
   unfoldable pub digest : ℕ → List ℕ → List ℕ
@@ -185,4 +185,4 @@ module _ (p : Sha2) where
   digest (suc n) hs = digest n hs ++ to_big_endian p.bytes (get_or hs n 0)
 
   unfoldable pub hash : List ℕ → List ℕ
-  hash m = digest 8 (hashBlocks p.initial (length (pad p m) / block_size p) (pad p m))
+  hash m = digest 8 (hash_blocks p.initial (length (pad p m) / block_size p) (pad p m))

@@ -16,11 +16,11 @@ use Rattle.protocol.specs.Answer.{Answer, done, refused, when_done, Test, first_
 use Rattle.protocol.specs.Connection.{longest_message}
 use Rattle.protocol.specs.InnerHeader.{is_inner_header}
 use Rattle.protocol.specs.Refusals.{not_signed, bad_signature}
-use Rattle.protocol.specs.Signing.{is_signed, with_signed_flag, with_signature, signatureUnder, signedUnder}
+use Rattle.protocol.specs.Signing.{is_signed, with_signed_flag, with_signature, signature_under, signed_under}
 use Rattle.protocol.specs.Calls.{signing_under, verifying_under, only_message, signing_key_tests, sign_tests, verify_tests, tests, effect, answer}
 use Rattle.protocol.specs.Contract.{Returns}
 use Rattle.protocol.specs.Suite.{suite, cmac}
-use Rattle.protocol.proofs.CallLaws.{lines-return, lines-return-done, number-lines}
+use Rattle.protocol.proofs.CallLaws.{lines_return, lines_return_done, number-lines}
 use Rattle.protocol.proofs.SignedBytes.{stored_is}
 use Rattle.protocol.proofs.FirstOf.{first_stays, first-goes-on}
 use Rattle.protocol.proofs.Judging.{NoneApplies, passes, line}
@@ -63,26 +63,26 @@ module _ (key m : Bytes) (n : ℕ) (says : n ≡ first_of (sign_tests key m)) wh
         none = none;
       }
 
-  -- ---- signing
+  -- ____ signing
 
   pub left_alone : (n ≡ 0 → ⊥) → Returns (signing_under key) (only_message m) n (only_message m)
   unfolding tests
-  left_alone h = lines-return (signing_under key) (only_message m) (sign_tests key m) 0 n refl says h
+  left_alone h = lines_return (signing_under key) (only_message m) (sign_tests key m) 0 n refl says h
 
-  pub signed : (flagged s after : Bytes) → n ≡ 0 → flagged ≡ with_signed_flag m → s ≡ signatureUnder cmac key flagged → length s ≡ 16
+  pub signed : (flagged s after : Bytes) → n ≡ 0 → flagged ≡ with_signed_flag m → s ≡ signature_under cmac key flagged → length s ≡ 16
       → after ≡ paste flagged 48 s (length s)
       → Returns (signing_under key) (only_message m) 0 (only_message after)
-  unfolding tests effect signedUnder
+  unfolding tests effect signed_under
   signed flagged s after z ef es l ea =
-      let stored : after ≡ signedUnder cmac key m =
-      ea ∙ stored_is s flagged l ∙ ap (λ (x : Bytes). with_signature x flagged) es ∙ ap (λ (f : Bytes). with_signature (signatureUnder cmac key f) f) ef in
-      lines-return-done (signing_under key) (only_message m) (sign_tests key m) 0 0 refl (sym z ∙ says) refl refl (only_message after)
+      let stored : after ≡ signed_under cmac key m =
+      ea ∙ stored_is s flagged l ∙ ap (λ (x : Bytes). with_signature x flagged) es ∙ ap (λ (f : Bytes). with_signature (signature_under cmac key f) f) ef in
+      lines_return_done (signing_under key) (only_message m) (sign_tests key m) 0 0 refl (sym z ∙ says) refl refl (only_message after)
       (ap only_message stored)
 
-  -- ---- verifying
+  -- ____ verifying
 
   abbrev right : Bytes
-  right = signatureUnder cmac key m
+  right = signature_under cmac key m
 
   -- 24 and 25
   abbrev more : List Test
@@ -110,8 +110,8 @@ module _ (key m : Bytes) (n : ℕ) (says : n ≡ first_of (sign_tests key m)) wh
       (e ∙ ap (λ (x : Bool). cond (not x) 24 (cond (not (same_bytes (bytes_at 48 16 m) right)) 25 0)) (sym eb)
       ∙ sym (first-goes-on (sign_tests key m) more (passed z).none))
 
-  pub not-signed : n ≡ 0 → is_signed m ≡ false → Returns (verifying_under key) (only_message m) 24 (only_message m)
-  not-signed z e = after_first 24 z false e refl
+  pub not_signed_lem : n ≡ 0 → is_signed m ≡ false → Returns (verifying_under key) (only_message m) 24 (only_message m)
+  not_signed_lem z e = after_first 24 z false e refl
 
   pub compared : (field s : Bytes) (same : Bool) (r : ℕ) → n ≡ 0 → is_signed m ≡ true → field ≡ bytes_at 48 16 m → s ≡ right
       → same ≡ same_bytes field s → r ≡ cond (not same) 25 0

@@ -1,7 +1,9 @@
 // Signing a message in clear, and verifying it, under one given key (RULES 15; MS-SMB2 3.1.4.1 and 3.1.5.1).
+#![tactic(auto)]
+
 ghost use Rattle.std.specs.Prelude.{◌≡◌, ◌≤◌, length};
 ghost use Rattle.protocol.specs.Answer.{first_of};
-ghost use Rattle.protocol.specs.Signing.{is_signed, with_signed_flag, signatureUnder};
+ghost use Rattle.protocol.specs.Signing.{is_signed, with_signed_flag, signature_under};
 ghost use Rattle.protocol.specs.Calls.{signing_under, verifying_under, only_message, sign_tests};
 ghost use Rattle.protocol.specs.Contract.{Returns};
 ghost use Rattle.protocol.specs.Suite as suite;
@@ -41,7 +43,7 @@ fn set_signed(m: &mut [u8])
 // Of the header a copy is taken in, with zeros for the signature, so that no byte of the message changes.
 fn signature(key: &[u8], m: &[u8]) -> [u8; 16]
     requires { (length key.now ≡ 16) × (64 ≤ length m.now) }
-    ensures { result ≡ signatureUnder suite.cmac key.now m.now }
+    ensures { result ≡ signature_under suite.cmac key.now m.now }
 {
     let t = aes::table();
     let keys = aes::expand_key(bytes_16(key, 0));

@@ -27,60 +27,60 @@ use Rattle.signing_pieces.specs.Running.{takes, covered, no_message, begun_under
 use Rattle.signing_pieces.specs.Running.{joined_else, signature_from, compared_number, step_with}
 use Rattle.signing_pieces.specs.Clauses.{begin_step, piece_step, sign_number, sign_place, verify_number}
 
--- ---- a begin
+-- ____ a begin
 
 module _ (key : Bytes) where
-  abbrev begunIf : Bool → SignStep
-  begunIf fits = cond fits (step_with (begun_under key) 0) (step_with no_message 40)
+  abbrev begun_if : Bool → SignStep
+  begun_if fits = cond fits (step_with (begun_under key) 0) (step_with no_message 40)
 
-  pub begin-refused : {s : SignState} {r : SignStep} → (length key ≡ 16 → ⊥) → s ≡ no_message → r ≡ step_with s 40 → r ≡ begin_step key
+  pub begin_refused : {s : SignState} {r : SignStep} → (length key ≡ 16 → ⊥) → s ≡ no_message → r ≡ step_with s 40 → r ≡ begin_step key
   unfolding begin_step
-  begin-refused h es er = er ∙ ap (λ (x : SignState). step_with x 40) es ∙ sym (ap begunIf (ne_eqb (length key) 16 h))
+  begin_refused h es er = er ∙ ap (λ (x : SignState). step_with x 40) es ∙ sym (ap begun_if (ne_eqb (length key) 16 h))
 
   abbrev fresh : List ℕ → Mac → SignState
   fresh own mac = record { key = own; header = replicate 64 0; code = mac; length = 0; begun = 1 }
 
-  pub begin-done : {own : List ℕ} {mac : Mac} {r : SignStep} → length key ≡ 16 → own ≡ key → mac ≡ nothing_taken → r ≡ step_with (fresh own mac) 0
+  pub begin_done : {own : List ℕ} {mac : Mac} {r : SignStep} → length key ≡ 16 → own ≡ key → mac ≡ nothing_taken → r ≡ step_with (fresh own mac) 0
       → r ≡ begin_step key
   unfolding begin_step begun_under
-  begin-done l eo em er = er ∙ ap₂ (λ (own : List ℕ) (mac : Mac). step_with (fresh own mac) 0) eo em ∙ sym (ap begunIf (eq-eqb (length key) 16 l))
+  begin_done l eo em er = er ∙ ap₂ (λ (own : List ℕ) (mac : Mac). step_with (fresh own mac) 0) eo em ∙ sym (ap begun_if (eq-eqb (length key) 16 l))
 
--- ---- a piece
+-- ____ a piece
 
 same_code : {keys keys' : List (List ℕ)} {m m' : Mac} {x x' : List ℕ} → keys ≡ keys' → m ≡ m' → x ≡ x'
     → updated (block_cipher keys) m x ≡ updated (block_cipher keys') m' x'
 same_code ek em ex = λ i. updated (block_cipher (ek i)) (em i) (ex i)
 
 module _ (s : SignState) (p : Bytes) where
-  abbrev inHeaderIf : Bool → SignState
-  inHeaderIf b = cond b (into_header s p) (filling_header s p)
+  abbrev in_header_if : Bool → SignState
+  in_header_if b = cond b (into_header s p) (filling_header s p)
 
-  pub into-short : {header : List ℕ} → length p < 64 - s.length → header ≡ paste s.header s.length p (length p)
+  pub into_short : {header : List ℕ} → length p < 64 - s.length → header ≡ paste s.header s.length p (length p)
       → after s p header s.code ≡ in_header s p
   unfolding into_header
-  into-short l e = ap (λ (h : List ℕ). after s p h s.code) e ∙ sym (ap inHeaderIf (lt-ltb (length p) (64 - s.length) l))
+  into_short l e = ap (λ (h : List ℕ). after s p h s.code) e ∙ sym (ap in_header_if (lt-ltb (length p) (64 - s.length) l))
 
-  pub into-whole : {header signed rest : List ℕ} {keys : List (List ℕ)} {m₀ m₁ m₂ : Mac} → 64 - s.length ≤ length p
+  pub into_whole : {header signed rest : List ℕ} {keys : List (List ℕ)} {m₀ m₁ m₂ : Mac} → 64 - s.length ≤ length p
       → header ≡ paste s.header s.length (take (64 - s.length) p) (length (take (64 - s.length) p))
       → keys ≡ expanded_key s.key → signed ≡ covered header → rest ≡ drop (64 - s.length) p
       → m₀ ≡ nothing_taken → m₁ ≡ updated (block_cipher keys) m₀ signed → m₂ ≡ updated (block_cipher keys) m₁ rest
       → after s p header m₂ ≡ in_header s p
   unfolding filling_header
-  into-whole l eh ek es er e₀ e₁ e₂ =
+  into_whole l eh ek es er e₀ e₁ e₂ =
       let c₁ = e₁ ∙ same_code ek e₀ (es ∙ ap covered eh) in
       let c₂ = e₂ ∙ same_code ek c₁ er in
-      ap₂ (after s p) eh c₂ ∙ sym (ap inHeaderIf (le-ltb (length p) (64 - s.length) l))
+      ap₂ (after s p) eh c₂ ∙ sym (ap in_header_if (le-ltb (length p) (64 - s.length) l))
 
   pub behind-is : {keys : List (List ℕ)} {mac : Mac} → keys ≡ expanded_key s.key → mac ≡ updated (block_cipher keys) s.code p
       → after s p s.header mac ≡ behind_header s p
   unfolding behind_header
   behind-is ek em = ap (after s p s.header) (em ∙ same_code ek refl refl)
 
-  abbrev joinedIf : Bool → SignState
-  joinedIf b = cond b (in_header s p) (behind_header s p)
+  abbrev joined_if : Bool → SignState
+  joined_if b = cond b (in_header s p) (behind_header s p)
 
-  abbrev takenIf : Bool → SignStep
-  takenIf b = cond b (step_with (joined_by s p) 0) (step_with s 3)
+  abbrev taken_if : Bool → SignStep
+  taken_if b = cond b (step_with (joined_by s p) 0) (step_with s 3)
 
   -- what the code tests
   module _ (fits : Bool) (e : fits ≡ leb (s.length + length p) longest_message) where
@@ -89,7 +89,7 @@ module _ (s : SignState) (p : Bytes) where
 
     pub refuses : {r : SignStep} → not (not (eqb s.begun 0) && fits) ≡ true → r ≡ step_with s 3 → r ≡ piece_step s p
     unfolding piece_step
-    refuses t er = er ∙ sym (ap takenIf (tested false (not-true (not (eqb s.begun 0) && fits) t)))
+    refuses t er = er ∙ sym (ap taken_if (tested false (not-true (not (eqb s.begun 0) && fits) t)))
 
     module _ (t : not (not (eqb s.begun 0) && fits) ≡ false) where
       goes_in : takes s (length p) ≡ true
@@ -100,35 +100,35 @@ module _ (s : SignState) (p : Bytes) where
 
       taken : {x : SignState} {r : SignStep} → x ≡ joined_by s p → r ≡ step_with x 0 → r ≡ piece_step s p
       unfolding piece_step
-      taken ex er = er ∙ ap (λ (y : SignState). step_with y 0) ex ∙ sym (ap takenIf goes_in)
+      taken ex er = er ∙ ap (λ (y : SignState). step_with y 0) ex ∙ sym (ap taken_if goes_in)
 
       pub taken_in : {x : SignState} {r : SignStep} → s.length < 64 → x ≡ in_header s p → r ≡ step_with x 0 → r ≡ piece_step s p
       unfolding joined_by
-      taken_in l ex er = taken (ex ∙ sym (ap joinedIf (lt-ltb s.length 64 l))) er
+      taken_in l ex er = taken (ex ∙ sym (ap joined_if (lt-ltb s.length 64 l))) er
 
-      pub taken-behind : {x : SignState} {r : SignStep} → 64 ≤ s.length → x ≡ behind_header s p → r ≡ step_with x 0 → r ≡ piece_step s p
+      pub taken_behind : {x : SignState} {r : SignStep} → 64 ≤ s.length → x ≡ behind_header s p → r ≡ step_with x 0 → r ≡ piece_step s p
       unfolding joined_by
-      taken-behind l ex er = taken (ex ∙ sym (ap joinedIf (le-ltb s.length 64 l))) er
+      taken_behind l ex er = taken (ex ∙ sym (ap joined_if (le-ltb s.length 64 l))) er
 
--- ---- a finish
+-- ____ a finish
 
 module _ (s : SignState) (place : Bytes) where
-  abbrev placeIf : Bool → Bytes
-  placeIf b = cond b (signature_from s) place
+  abbrev place_if : Bool → Bytes
+  place_if b = cond b (signature_from s) place
 
   pub number_is : {n j : ℕ} → n ≡ cond (not (eqb (length place) 16)) 40 j → j ≡ joined_else s 0 → n ≡ sign_number s place
   unfolding sign_number
   number_is en ej = en ∙ ap (cond (not (eqb (length place) 16)) 40) ej
 
-  pub place-stays : {n : ℕ} → n ≡ sign_number s place → (n ≡ 0 → ⊥) → place ≡ sign_place s place
+  pub place_stays : {n : ℕ} → n ≡ sign_number s place → (n ≡ 0 → ⊥) → place ≡ sign_place s place
   unfolding sign_place
-  place-stays e d = sym (ap placeIf (ne_eqb (sign_number s place) 0 (λ z. d (e ∙ z))))
+  place_stays e d = sym (ap place_if (ne_eqb (sign_number s place) 0 (λ z. d (e ∙ z))))
 
-  pub place-filled : {n : ℕ} {code place' : Bytes} → n ≡ sign_number s place → n ≡ 0 → length place ≡ 16 → length code ≡ 16 → code ≡ signature_from s
+  pub place_filled : {n : ℕ} {code place' : Bytes} → n ≡ sign_number s place → n ≡ 0 → length place ≡ 16 → length code ≡ 16 → code ≡ signature_from s
       → place' ≡ paste place 0 code (length code) → place' ≡ sign_place s place
   unfolding sign_place
-  place-filled {n} {code} {place'} e z lp lc ec ep =
-      ep ∙ paste_all place 0 code (omega (arith, lp, lc)) ∙ ec ∙ sym (ap placeIf (eq-eqb (sign_number s place) 0 (sym e ∙ z)))
+  place_filled {n} {code} {place'} e z lp lc ec ep =
+      ep ∙ paste_all place 0 code (omega (arith, lp, lc)) ∙ ec ∙ sym (ap place_if (eq-eqb (sign_number s place) 0 (sym e ∙ z)))
 
 -- 11 and 12 were answered, or not
 else_stays : (a b : Bool) (n k : ℕ) → n ≡ cond a 11 (cond b 12 0) → (n ≡ 0 → ⊥) → n ≡ cond a 11 (cond b 12 k)
@@ -142,22 +142,22 @@ else_passes false true n k e z = absurd (omega (arith, e, z))
 else_passes false false n k e z = refl
 
 module _ (s : SignState) where
-  pub verify-stays : {n : ℕ} → n ≡ joined_else s 0 → (n ≡ 0 → ⊥) → n ≡ verify_number s
+  pub verify_stays : {n : ℕ} → n ≡ joined_else s 0 → (n ≡ 0 → ⊥) → n ≡ verify_number s
   unfolding verify_number
-  verify-stays {n} e d = else_stays (eqb s.begun 0 || ltb s.length 64) (not (is_inner_header s.header 0)) n (compared_number s) e d
+  verify_stays {n} e d = else_stays (eqb s.begun 0 || ltb s.length 64) (not (is_inner_header s.header 0)) n (compared_number s) e d
 
-  pub verify-goes-on : {n r : ℕ} → n ≡ joined_else s 0 → n ≡ 0 → r ≡ compared_number s → r ≡ verify_number s
+  pub verify_goes-on : {n r : ℕ} → n ≡ joined_else s 0 → n ≡ 0 → r ≡ compared_number s → r ≡ verify_number s
   unfolding verify_number
-  verify-goes-on {n} e z er = er ∙ else_passes (eqb s.begun 0 || ltb s.length 64) (not (is_inner_header s.header 0)) n (compared_number s) e z
+  verify_goes-on {n} e z er = er ∙ else_passes (eqb s.begun 0 || ltb s.length 64) (not (is_inner_header s.header 0)) n (compared_number s) e z
 
-  abbrev comparedIf : Bool → ℕ
-  comparedIf b = cond (not b) 24 (cond (not (same_bytes (signature_field s.header) (signature_from s))) 25 0)
+  abbrev compared_if : Bool → ℕ
+  compared_if b = cond (not b) 24 (cond (not (same_bytes (signature_field s.header) (signature_from s))) 25 0)
 
-  pub flag-missing : is_signed s.header ≡ false → 24 ≡ compared_number s
+  pub flag_missing : is_signed s.header ≡ false → 24 ≡ compared_number s
   unfolding compared_number
-  flag-missing e = sym (ap comparedIf e)
+  flag_missing e = sym (ap compared_if e)
 
-  pub compared-by : {field code : Bytes} {same : Bool} {r : ℕ} → is_signed s.header ≡ true → field ≡ bytes_at 48 16 s.header → code ≡ signature_from s
+  pub compared_by : {field code : Bytes} {same : Bool} {r : ℕ} → is_signed s.header ≡ true → field ≡ bytes_at 48 16 s.header → code ≡ signature_from s
       → same ≡ same_bytes field code → r ≡ cond (not same) 25 0 → r ≡ compared_number s
   unfolding compared_number
-  compared-by e ef ec es er = er ∙ ap (λ (b : Bool). cond (not b) 25 0) (es ∙ ap₂ same_bytes ef ec) ∙ sym (ap comparedIf e)
+  compared_by e ef ec es er = er ∙ ap (λ (b : Bool). cond (not b) 25 0) (es ∙ ap₂ same_bytes ef ec) ∙ sym (ap compared_if e)

@@ -18,7 +18,7 @@ use Rattle.protocol.specs.Bytes.{Bytes}
 use Rattle.protocol.specs.Ciphers.{aes}
 use Rattle.protocol.specs.Signing.{with_signed_flag, with_signature}
 use Rattle.protocol.specs.Pieces.{Underway, with_piece}
-use Rattle.protocol.proofs.SignedBytes.{flagged_length, flagged-append, stored-append}
+use Rattle.protocol.proofs.SignedBytes.{flagged_length, flagged_append, stored-append}
 use Rattle.signing_pieces.specs.declared.SignState.{SignState}
 use Rattle.signing_pieces.specs.Running.{covered, after, into_header, filling_header, behind_header, joined_by, UnderWay, StandsFor}
 
@@ -27,7 +27,7 @@ pub covered-append : (a b : Bytes) → 64 ≤ length a → covered (a ++ b) ≡ 
 unfolding covered
 covered-append a b l =
     let lf = flagged_length a l in
-    ap (with_signature (replicate 16 0)) (flagged-append a b l) ∙ stored-append (with_signed_flag a) b (omega arith) (replicate 16 0)
+    ap (with_signature (replicate 16 0)) (flagged_append a b l) ∙ stored-append (with_signed_flag a) b (omega arith) (replicate 16 0)
 
 -- one message goes on
 module _ (u : Underway) (b : u.begun ≡ true) (p : Bytes) where
@@ -88,23 +88,23 @@ module _ (u : Underway) (b : u.begun ≡ true) (p : Bytes) where
         abbrev filled : Bytes
         filled = paste s.header s.length a (length a)
 
-        filled-length : length filled ≡ 64
-        filled-length = let l = size in length-paste s.header s.length a (length a) (omega (arith, fits, l)) (le_refl (length a)) ∙ l
+        filled_length : length filled ≡ 64
+        filled_length = let l = size in length-paste s.header s.length a (length a) (omega (arith, fits, l)) (le_refl (length a)) ∙ l
 
-        filled-front : take (s.length + length a) filled ≡ u.joined ++ a
-        filled-front =
+        filled_front : take (s.length + length a) filled ≡ u.joined ++ a
+        filled_front =
             let l = size in
             take-paste s.header s.length a (length a) (omega (arith, fits, l)) (le_refl (length a)) ∙ ap₂ ◌++◌ begins (take-length a)
 
       -- the header is not whole yet
-      still-short : length p < 64 - s.length → StandsFor (into_header s p) (with_piece p u)
+      still_short : length p < 64 - s.length → StandsFor (into_header s p) (with_piece p u)
       unfolding into_header
-      still-short less =
+      still_short less =
           let t = total in
           let fits : s.length + length p ≤ 64 = omega (arith, less, short) in
-          stands (filled p fits) s.code (filled-length p fits)
+          stands (filled p fits) s.code (filled_length p fits)
           (ap (λ (n : ℕ). take n (filled p fits)) (sym t)
-          ∙ filled-front p fits
+          ∙ filled_front p fits
           ∙ sym (take_all 64 (u.joined ++ p) (omega arith)))
           (λ k. absurd (omega arith))
 
@@ -124,30 +124,30 @@ module _ (u : Underway) (b : u.begun ≡ true) (p : Bytes) where
 
         header_is : filled a fit ≡ u.joined ++ a
         header_is =
-            let l = filled-length a fit in
+            let l = filled_length a fit in
             let f = front_length in
-            sym (take_all (s.length + length a) (filled a fit) (omega arith)) ∙ filled-front a fit
+            sym (take_all (s.length + length a) (filled a fit) (omega arith)) ∙ filled_front a fit
 
         whole : length (u.joined ++ a) ≡ 64
         whole = length-append u.joined a ∙ ap (λ (n : ℕ). n + length a) (sym h.count) ∙ front_length
 
-        all-is : u.joined ++ p ≡ (u.joined ++ a) ++ rest
-        all-is = ap (λ (x : Bytes). u.joined ++ x) (sym (take-append-drop (64 - s.length) p)) ∙ sym (append_assoc u.joined a rest)
+        all_is : u.joined ++ p ≡ (u.joined ++ a) ++ rest
+        all_is = ap (λ (x : Bytes). u.joined ++ x) (sym (take-append-drop (64 - s.length) p)) ∙ sym (append_assoc u.joined a rest)
 
-        now-whole : StandsFor (filling_header s p) (with_piece p u)
+        now_whole : StandsFor (filling_header s p) (with_piece p u)
         unfolding filling_header
-        now-whole =
+        now_whole =
             let E = aes s.key in
             let header : Bytes = filled a fit in
             let mac : Mac = code.updated E (code.updated E code.nothing_taken (covered header)) rest in
             let l = whole in
             let la = length-append (u.joined ++ a) rest in
-            let lp : length (u.joined ++ p) ≡ length ((u.joined ++ a) ++ rest) = ap length all-is in
-            let lh = filled-length a fit in
+            let lp : length (u.joined ++ p) ≡ length ((u.joined ++ a) ++ rest) = ap length all_is in
+            let lh = filled_length a fit in
             let signed : covered header ++ rest ≡ covered (u.joined ++ p) =
             ap (λ (x : Bytes). covered x ++ rest) header_is
             ∙ sym (covered-append (u.joined ++ a) rest (omega arith))
-            ∙ ap covered (sym all-is) in
+            ∙ ap covered (sym all_is) in
             let one : code.Holds (code.updated E code.nothing_taken (covered header)) E (covered header) =
             updated-holds E code.nothing_taken [] (covered header) (nothing_holds E) in
             let held : code.Holds mac E (covered header ++ rest) =
@@ -158,7 +158,7 @@ module _ (u : Underway) (b : u.begun ≡ true) (p : Bytes) where
             (take_all (length (u.joined ++ p)) header (omega arith)
             ∙ header_is
             ∙ sym (take_at (u.joined ++ a) rest 64 l)
-            ∙ ap (take 64) (sym all-is))
+            ∙ ap (take 64) (sym all_is))
             (λ k. rw signed at kept)
 
     pub joined-stands : StandsFor (joined_by s p) (with_piece p u)
@@ -167,6 +167,6 @@ module _ (u : Underway) (b : u.begun ≡ true) (p : Bytes) where
       where
         go : (x y : Bool) → ltb s.length 64 ≡ x → ltb (length p) (64 - s.length) ≡ y
             → StandsFor (cond x (cond y (into_header s p) (filling_header s p)) (behind_header s p)) (with_piece p u)
-        go true true ex ey = still-short (ltb-true s.length 64 ex) (ltb-true (length p) (64 - s.length) ey)
-        go true false ex ey = now-whole (ltb-true s.length 64 ex) (ltb-false (length p) (64 - s.length) ey)
+        go true true ex ey = still_short (ltb-true s.length 64 ex) (ltb-true (length p) (64 - s.length) ey)
+        go true false ex ey = now_whole (ltb-true s.length 64 ex) (ltb-false (length p) (64 - s.length) ey)
         go false y ex ey = after-header (ltb-false s.length 64 ex)

@@ -20,24 +20,24 @@ use Rattle.protocol.specs.Ciphers.{aes}
 use Rattle.protocol.specs.Connection.{longest_message}
 use Rattle.protocol.specs.InnerHeader.{is_inner_header}
 use Rattle.protocol.specs.Refusals.{too_long, not_signed, bad_signature}
-use Rattle.protocol.specs.Signing.{is_signed, with_signed_flag, signatureUnder}
+use Rattle.protocol.specs.Signing.{is_signed, with_signed_flag, signature_under}
 use Rattle.protocol.specs.Pieces.{Underway, begun_from, not_begun, piece_fits, with_piece}
 use Rattle.protocol.specs.SigningPieces.{signature_of}
 use Rattle.protocol.specs.Calls.{sign_beginning, sign_piece, sign_finishing, verify_finishing, only_underway, only_signature, with_underway}
 use Rattle.protocol.specs.Calls.{signing_key_tests, joined_tests, sign_finish_tests, verify_finish_tests, tests, effect, answer, left}
 use Rattle.protocol.specs.Contract.{Returns}
 use Rattle.protocol.specs.Suite.{suite, cmac}
-use Rattle.protocol.proofs.CallLaws.{lines-return, lines-return-done, number-lines}
+use Rattle.protocol.proofs.CallLaws.{lines_return, lines_return_done, number-lines}
 use Rattle.protocol.proofs.FirstOf.{first-append}
 use Rattle.protocol.proofs.Judging.{passes, line}
-use Rattle.protocol.proofs.SignedBytes.{flagged-append, flag-there}
+use Rattle.protocol.proofs.SignedBytes.{flagged_append, flag-there}
 use Rattle.protocol.proofs.SuiteLaws.{cmac_is}
 use Rattle.signing_pieces.specs.declared.SignState.{SignState}
 use Rattle.signing_pieces.specs.Running.{takes, covered, no_message, begun_under, joined_by, joined_else, signature_from, compared_number, step_with}
 use Rattle.signing_pieces.specs.Running.{UnderWay, StandsFor}
 use Rattle.signing_pieces.specs.Clauses.{begin_step, piece_step, sign_number, sign_place, verify_number, HandsOn}
 
--- ---- the begin
+-- ____ the begin
 
 begin_left : (key : Bytes) (b : Bool) → eqb (length key) 16 ≡ b
     → (left suite (sign_beginning key) (only_underway not_begun)).underway ≡ cond b (begun_from key) not_begun
@@ -92,16 +92,16 @@ begin_hands_on key = go (eqb (length key) 16) refl
           stands = rw (begin_left key false e) no_message-stands;
         }
 
--- ---- a piece
+-- ____ a piece
 
 module _ (s : SignState) (u : Underway) (h : StandsFor s u) where
   module _ (p : Bytes) where
     takes-is : takes s (length p) ≡ piece_fits u p
     takes-is = ap₂ ◌&&◌ h.flag (ap (λ (n : ℕ). leb (n + length p) longest_message) h.count)
 
-    piece-left : (b : Bool) → takes s (length p) ≡ b → (left suite (sign_piece p) (only_underway u)).underway ≡ cond b (with_piece p u) u
+    piece_left : (b : Bool) → takes s (length p) ≡ b → (left suite (sign_piece p) (only_underway u)).underway ≡ cond b (with_piece p u) u
     unfolding tests effect
-    piece-left b e =
+    piece_left b e =
         ap (λ (x : Bool). (when_done (cond (not x) (refused 3) (done 0)) (λ n. with_underway (with_piece p u) (only_underway u)) (only_underway u)).underway)
         (sym takes-is ∙ e)
         ∙ go b
@@ -112,21 +112,21 @@ module _ (s : SignState) (u : Underway) (h : StandsFor s u) where
         go true = refl
         go false = refl
 
-    piece-number : (b : Bool) → takes s (length p) ≡ b → answer_number (answer suite (sign_piece p) (only_underway u)) ≡ cond (not b) 3 0
+    piece_number : (b : Bool) → takes s (length p) ≡ b → answer_number (answer suite (sign_piece p) (only_underway u)) ≡ cond (not b) 3 0
     unfolding tests
-    piece-number b e = number-lines (too_long (not (piece_fits u p)) ∷ []) 0 ∙ ap (λ (x : Bool). cond (not x) 3 0) (sym takes-is ∙ e)
+    piece_number b e = number-lines (too_long (not (piece_fits u p)) ∷ []) 0 ∙ ap (λ (x : Bool). cond (not x) 3 0) (sym takes-is ∙ e)
 
-    pub piece-hands-on : (u.begun ≡ true → StandsFor (joined_by s p) (with_piece p u)) → HandsOn (sign_piece p) u (piece_step s p)
+    pub piece_hands_on : (u.begun ≡ true → StandsFor (joined_by s p) (with_piece p u)) → HandsOn (sign_piece p) u (piece_step s p)
     unfolding piece_step
-    piece-hands-on goes_in = go (takes s (length p)) refl
+    piece_hands_on goes_in = go (takes s (length p)) refl
       where
         go : (b : Bool) → takes s (length p) ≡ b → HandsOn (sign_piece p) u (cond b (step_with (joined_by s p) 0) (step_with s 3))
         go true e =
             let begun = sym h.flag ∙ (and_true (not (eqb s.begun 0)) (leb (s.length + length p) longest_message) e).0 in
-            record { number = sym (piece-number true e); stands = rw (piece-left true e) (goes_in begun) }
-        go false e = record { number = sym (piece-number false e); stands = rw (piece-left false e) h }
+            record { number = sym (piece_number true e); stands = rw (piece_left true e) (goes_in begun) }
+        go false e = record { number = sym (piece_number false e); stands = rw (piece_left false e) h }
 
-  -- ---- the joined bytes, once there are 64
+  -- ____ the joined bytes, once there are 64
 
   module _ (long : 64 ≤ length u.joined) where
     pub long-begun : u.begun ≡ true
@@ -155,26 +155,26 @@ module _ (s : SignState) (u : Underway) (h : StandsFor s u) where
     signed_is = ap (λ (x : Bytes). eqb (little_endian x / 8 % 2) 1) (field_is 16 4 (omega arith))
 
     -- the flag is there: to set it changes nothing
-    flagged-same : with_signed_flag s.header ≡ s.header → with_signed_flag u.joined ≡ u.joined
-    flagged-same e =
+    flagged_same : with_signed_flag s.header ≡ s.header → with_signed_flag u.joined ≡ u.joined
+    flagged_same e =
         let m = u.joined in
         let l : length (take 64 m) ≡ 64 = length-take-le 64 m long in
         let front : with_signed_flag (take 64 m) ≡ take 64 m = ap with_signed_flag (sym header_is) ∙ e ∙ header_is in
         ap with_signed_flag (sym (take-append-drop 64 m))
-        ∙ flagged-append (take 64 m) (drop 64 m) (omega arith)
+        ∙ flagged_append (take 64 m) (drop 64 m) (omega arith)
         ∙ ap (λ (x : Bytes). x ++ drop 64 m) front
         ∙ take-append-drop 64 m
 
     -- the code has taken in the whole message as it is signed
     signature-is : signature_from s ≡ signature_of cmac u
-    unfolding signature_from signature_of signatureUnder covered
+    unfolding signature_from signature_of signature_under covered
     signature-is =
         let way = its in
         ap (λ (k : Bytes). code.finished (aes k) s.code) way.its-key
         ∙ finished_is (aes u.start) s.code (covered u.joined) (way.chained long)
         ∙ sym (cmac_is u.start (covered u.joined))
 
-  -- ---- the finish
+  -- ____ the finish
 
   short-is : (eqb s.begun 0 || ltb s.length 64) ≡ ltb (length u.joined) 64
   short-is = go u.begun refl
@@ -186,8 +186,8 @@ module _ (s : SignState) (u : Underway) (h : StandsFor s u) where
           ∙ sym (ap (λ (m : Bytes). ltb (length m) 64) (h.no-message e))
 
   -- 11, 12, and else what is said of a message that is long enough
-  joined-else : (n k : ℕ) → (64 ≤ length u.joined → n ≡ k) → joined_else s n ≡ first_else (joined_tests u) k
-  joined-else n k same =
+  joined_else_lem : (n k : ℕ) → (64 ≤ length u.joined → n ≡ k) → joined_else s n ≡ first_else (joined_tests u) k
+  joined_else_lem n k same =
       ap (λ (b : Bool). cond b 11 (cond (not (is_inner_header s.header 0)) 12 n)) short-is ∙ go (ltb (length u.joined) 64) refl
     where
       go : (b : Bool) → ltb (length u.joined) 64 ≡ b
@@ -199,9 +199,9 @@ module _ (s : SignState) (u : Underway) (h : StandsFor s u) where
 
   -- signing
   module _ (place : Bytes) where
-    sign-says : sign_number s place ≡ first_of (sign_finish_tests u place)
+    sign_says : sign_number s place ≡ first_of (sign_finish_tests u place)
     unfolding sign_number
-    sign-says = ap (cond (not (eqb (length place) 16)) 40) (joined-else 0 0 (λ l. refl))
+    sign_says = ap (cond (not (eqb (length place) 16)) 40) (joined_else_lem 0 0 (λ l. refl))
 
     abbrev k : ℕ
     k = sign_number s place
@@ -209,22 +209,22 @@ module _ (s : SignState) (u : Underway) (h : StandsFor s u) where
     abbrev ts : List Test
     ts = sign_finish_tests u place
 
-    pub sign-returns : Returns (sign_finishing u) (only_signature place) k (only_signature (sign_place s place))
+    pub sign_returns : Returns (sign_finishing u) (only_signature place) k (only_signature (sign_place s place))
     unfolding sign_place tests effect
-    sign-returns = go (eqb k 0) refl
+    sign_returns = go (eqb k 0) refl
       where
         go : (b : Bool) → eqb k 0 ≡ b → Returns (sign_finishing u) (only_signature place) k (only_signature (cond b (signature_from s) place))
         go true e =
             let z = eqb-true k 0 e in
-            let long = ltb-false (length u.joined) 64 (line ts (passes ts k refl sign-says z) 11) in
-            lines-return-done (sign_finishing u) (only_signature place) ts 0 k refl sign-says refl z (only_signature (signature_from s))
+            let long = ltb-false (length u.joined) 64 (line ts (passes ts k refl sign_says z) 11) in
+            lines_return_done (sign_finishing u) (only_signature place) ts 0 k refl sign_says refl z (only_signature (signature_from s))
             (ap only_signature (signature-is long))
-        go false e = lines-return (sign_finishing u) (only_signature place) ts 0 k refl sign-says (eqb-false k 0 e)
+        go false e = lines_return (sign_finishing u) (only_signature place) ts 0 k refl sign_says (eqb-false k 0 e)
 
   -- verifying, where the header is made of bytes
   module _ (bytes : (i : ℕ) → get_or s.header i 0 < 256) where
     abbrev right : Bytes
-    right = signatureUnder cmac u.start u.joined
+    right = signature_under cmac u.start u.joined
 
     abbrev more : List Test
     more = not_signed u.joined ∷ bad_signature right u.joined ∷ []
@@ -235,7 +235,7 @@ module _ (s : SignState) (u : Underway) (h : StandsFor s u) where
     right_is long e =
         let size = (its long).room in
         let kept = flag-there s.header (omega arith) (bytes 16) (bytes 17) (bytes 18) (bytes 19) e in
-        signature-is long ∙ ap (signatureUnder cmac u.start) (flagged-same long kept)
+        signature-is long ∙ ap (signature_under cmac u.start) (flagged_same long kept)
 
     compared_is : 64 ≤ length u.joined → compared_number s ≡ first_of more
     unfolding compared_number
@@ -248,12 +248,12 @@ module _ (s : SignState) (u : Underway) (h : StandsFor s u) where
             ∙ sym (ap (λ (x : Bool). cond (not x) 24 (cond (not (same_bytes (bytes_at 48 16 u.joined) right)) 25 0)) (sym (signed_is long) ∙ e))
         go false e = sym (ap (λ (x : Bool). cond (not x) 24 (cond (not (same_bytes (bytes_at 48 16 u.joined) right)) 25 0)) (sym (signed_is long) ∙ e))
 
-    pub verify-returns : Returns (verify_finishing u) (only_underway not_begun) (verify_number s) (only_underway not_begun)
+    pub verify_returns : Returns (verify_finishing u) (only_underway not_begun) (verify_number s) (only_underway not_begun)
     unfolding verify_number tests effect
-    verify-returns =
+    verify_returns =
         record {
           number =
-              joined-else (compared_number s) (first_of more) compared_is
+              joined_else_lem (compared_number s) (first_of more) compared_is
               ∙ sym (first-append (joined_tests u) more 0)
               ∙ sym (number-lines (verify_finish_tests u right) 0);
           leaves = sym (unchanged (answer suite (verify_finishing u) (only_underway not_begun)));

@@ -1,4 +1,6 @@
 // Signing and verifying a message in clear as it arrives, piece by piece, under one given key (RULES 15; MS-SMB2 3.1.4.1 and 3.1.5.1).
+#![tactic(auto)]
+
 mod header;
 
 ghost use Rattle.std.specs.Prelude.{◌≡◌, ◌+◌, ◌≤◌, ◌<◌, length};

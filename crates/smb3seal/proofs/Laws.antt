@@ -9,7 +9,7 @@ use Rattle.protocol.specs.Preauth.{FoldKind}
 use Rattle.protocol.specs.Calls.{Call, Lent, folding, only_chain}
 use Rattle.protocol.specs.Contract.{Makes, Returns}
 use Rattle.answer.specs.Reading.{marked}
-use Rattle.preauth.proofs.FoldLaws.{fold-mark}
+use Rattle.preauth.proofs.FoldLaws.{fold_mark_lem}
 use Rattle.smb3seal.specs.Exports.{Reports}
 
 -- the call k c, of the connection that the code made, answered a
@@ -25,17 +25,17 @@ module _ (k : Connection → Call) (c c' : Connection) (same : c ≡ c') (w w' :
 
 -- and one that takes no connection
 module _ (c : Call) (w w' : Lent) (a : Answer) (m : Makes c w a w') (n : ℕ) (en : n ≡ answer_number a) where
-  pub returned-alone : Returns c w n w'
-  returned-alone = record { number = en ∙ ap answer_number m.answers; leaves = m.leaves }
+  pub returned_alone : Returns c w n w'
+  returned_alone = record { number = en ∙ ap answer_number m.answers; leaves = m.leaves }
 
-  pub reported-alone : (h h' : ℕ) → h' ≡ carried a h → Reports c w n w' h h'
-  reported-alone h h' e = record { returns = returned-alone; reports = e ∙ ap (λ (b : Answer). carried b h) m.answers }
+  pub reported_alone : (h h' : ℕ) → h' ≡ carried a h → Reports c w n w' h h'
+  reported_alone h h' e = record { returns = returned_alone; reports = e ∙ ap (λ (b : Answer). carried b h) m.answers }
 
 -- and a fold, whose place is one for a mark
 module _ (kind : FoldKind) (v m : Bytes) (w' : Lent) (a : Answer) (made : Makes (folding kind m) (only_chain v) a w') where
-  pub marked-alone : (n : ℕ) → n ≡ answer_number a → (h h' : ℕ) → h' ≡ marked a h → Reports (folding kind m) (only_chain v) n w' h h'
-  marked-alone n en h h' e =
+  pub marked_alone : (n : ℕ) → n ≡ answer_number a → (h h' : ℕ) → h' ≡ marked a h → Reports (folding kind m) (only_chain v) n w' h h'
+  marked_alone n en h h' e =
       record {
-        returns = returned-alone (folding kind m) (only_chain v) w' a made n en;
-        reports = e ∙ ap (λ (b : Answer). marked b h) made.answers ∙ fold-mark kind v m h;
+        returns = returned_alone (folding kind m) (only_chain v) w' a made n en;
+        reports = e ∙ ap (λ (b : Answer). marked b h) made.answers ∙ fold_mark_lem kind v m h;
       }

@@ -1,10 +1,12 @@
 // The calls from C: numbers and byte buffers. What each answers and leaves behind is said by include/smb3seal.h in words.
+#![tactic(auto)]
+
 mod pieces;
 mod sign_pieces;
 mod table;
 mod traces;
 
-ghost use Rattle.protocol.specs.Preauth.{negotiateMessage, setupRequest, setupResponse};
+ghost use Rattle.protocol.specs.Preauth.{negotiate_message, setup_request, setup_response};
 ghost use Rattle.protocol.specs.Calls.{derivation, folding, sealing_under, opening_under, only_message, message_and_counter, only_chain, only_keys};
 ghost use Rattle.protocol.specs.Calls.{signing_under, verifying_under};
 ghost use Rattle.protocol.specs.Contract.{Returns};
@@ -28,8 +30,8 @@ pub extern "C" fn smb3seal_derive(
 // Folds a negotiate message or a session setup request.
 #[unsafe(no_mangle)]
 pub extern "C" fn smb3seal_fold(chain: &mut [u8], message: &[u8]) -> u32
-    ensures { Returns (folding negotiateMessage message.now) (only_chain chain.old) result (only_chain chain.new)
-        × Returns (folding setupRequest message.now) (only_chain chain.old) result (only_chain chain.new) }
+    ensures { Returns (folding negotiate_message message.now) (only_chain chain.old) result (only_chain chain.new)
+        × Returns (folding setup_request message.now) (only_chain chain.old) result (only_chain chain.new) }
 {
     answer::number(preauth::fold(chain, message))
 }
@@ -37,7 +39,7 @@ pub extern "C" fn smb3seal_fold(chain: &mut [u8], message: &[u8]) -> u32
 // Folds a session setup response, if its status asks for that.
 #[unsafe(no_mangle)]
 pub extern "C" fn smb3seal_fold_response(chain: &mut [u8], message: &[u8], folded: &mut u32) -> u32
-    ensures { Reports (folding setupResponse message.now) (only_chain chain.old) result (only_chain chain.new) folded.old folded.new }
+    ensures { Reports (folding setup_response message.now) (only_chain chain.old) result (only_chain chain.new) folded.old folded.new }
 {
     let answer = preauth::fold_response(chain, message);
     *folded = answer::mark_to(answer, *folded);

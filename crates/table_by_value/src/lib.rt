@@ -1,5 +1,7 @@
 // A session table that its program holds by value, and the two calls that the lab makes with it (RULES 10): what the exports of `smb3seal` do
 // with a lent run of records. Each finds the place, takes the record there, and puts back what `session_calls` makes of it.
+#![tactic(auto)]
+
 ghost use Rattle.std.specs.Prelude.{◌≡◌, length, replicate};
 ghost use Rattle.protocol.specs.Calls.{adding, opening, only_table, message_and_table};
 ghost use Rattle.protocol.specs.Contract.{Makes, Returns};

@@ -8,14 +8,14 @@ use Rattle.octets.proofs.NumberLaws.{big_append}
 use Rattle.octets.proofs.SameLaws.{same_equal}
 use Rattle.test_lines.specs.Lines.{digit, pair, first_byte, bytes_of, behind, next_word, Reads, begins}
 
--- ---- one element, and those behind it
+-- ____ one element, and those behind it
 
 from : (l : List ℕ) (i : ℕ) → i < length l → drop i l ≡ get_or l i 0 ∷ drop (i + 1) l
 from l i h = drop-cons l i 0 h ∙ ap (λ (k : ℕ). get_or l i 0 ∷ drop k l) (sym (add-one i))
 
--- ---- two tests
+-- ____ two tests
 
--- ---- the place behind a byte
+-- ____ the place behind a byte
 
 module _ (b : ℕ) (l : List ℕ) (i : ℕ) where
   pub behind-here : i < length l → get_or l i 0 ≡ b → i + 1 ≡ i + behind b (drop i l)
@@ -55,7 +55,7 @@ behind_between b l i r h e =
     let q : 0 < behind b (drop i l) = rw (from l i h) (behind-some b (get_or l i 0) (drop (i + 1) l)) in
     (omega arith, omega (arith, behind-within b (drop i l), length-drop i l))
 
--- ---- the bytes of a word
+-- ____ the bytes of a word
 
 pub first-at : (l : List ℕ) (i : ℕ) → i + 2 ≤ length l → pair (get_or l i 0) (get_or l (i + 1) 0) ≡ first_byte (drop i l)
 unfolding first_byte
@@ -70,11 +70,11 @@ first-none (x ∷ y ∷ l) h = omega arith
 pub first_past : (l : List ℕ) (i : ℕ) → length l < i + 2 → 256 ≡ first_byte (drop i l)
 first_past l i h = sym (first-none (drop i l) (omega (arith, length-drop i l)))
 
-word_goes-on : (l : List ℕ) → first_byte l < 256 → bytes_of l ≡ first_byte l ∷ bytes_of (drop 2 l)
+word_goes_on : (l : List ℕ) → first_byte l < 256 → bytes_of l ≡ first_byte l ∷ bytes_of (drop 2 l)
 unfolding first_byte bytes_of
-word_goes-on [] h = absurd (omega arith)
-word_goes-on (x ∷ []) h = absurd (omega arith)
-word_goes-on (x ∷ y ∷ l) h = rw (lt-ltb (pair x y) 256 h)
+word_goes_on [] h = absurd (omega arith)
+word_goes_on (x ∷ []) h = absurd (omega arith)
+word_goes_on (x ∷ y ∷ l) h = rw (lt-ltb (pair x y) 256 h)
 
 word_ends : (l : List ℕ) → 256 ≤ first_byte l → bytes_of l ≡ []
 unfolding first_byte bytes_of
@@ -122,7 +122,7 @@ reading_turn {line} {out₀} {out} {at} {n} {i} {b} {b'} s test e =
     let t : take (n + 1) (set out n (b % 256)) ≡ take n out ++ (b ∷ []) =
     ap (λ (k : ℕ). take k (set out n (b % 256))) (add-one n) ∙ take-suc-set out n (b % 256) l ∙ ap (λ (x : ℕ). take n out ++ (x ∷ [])) m in
     let w : bytes_of (drop i line) ≡ b ∷ bytes_of (drop (i + 2) line) =
-    word_goes-on (drop i line) (omega (arith, s.next)) ∙ ap₂ (λ (x : ℕ) (r : List ℕ). x ∷ bytes_of r) (sym s.next) (drop-drop 2 i line) in
+    word_goes_on (drop i line) (omega (arith, s.next)) ∙ ap₂ (λ (x : ℕ) (r : List ℕ). x ∷ bytes_of r) (sym s.next) (drop-drop 2 i line) in
     record {
       bound = omega arith;
       size = length-set out n (b % 256) ∙ s.size;
@@ -182,16 +182,16 @@ module _ {line out out' : List ℕ} {at len next : ℕ} (s : Reads line at out o
       let l : length (take (length out) w) ≡ len = length-take (length out) w ∙ sym s.count in
       ap (take len) s.bytes ∙ take_at (take (length out) w) (drop (length w) out) len l
 
--- ---- digits
+-- ____ digits
 
 module _ (b : ℕ) where
   pub digit-decimal : (leb 48 b && leb b 57) ≡ true → (48 ≤ b) × (b - 48 ≡ digit b)
   unfolding digit
   digit-decimal e = (leb-true 48 b (and_true (leb 48 b) (leb b 57) e).0, sym (rw e))
 
-  pub digit-letter : (leb 48 b && leb b 57) ≡ false → (leb 97 b && leb b 102) ≡ true → (87 ≤ b) × (b - 87 ≡ digit b)
+  pub digit_letter : (leb 48 b && leb b 57) ≡ false → (leb 97 b && leb b 102) ≡ true → (87 ≤ b) × (b - 87 ≡ digit b)
   unfolding digit
-  digit-letter e f = (let h = leb-true 97 b (and_true (leb 97 b) (leb b 102) f).0 in omega arith, sym (rw (e, f)))
+  digit_letter e f = (let h = leb-true 97 b (and_true (leb 97 b) (leb b 102) f).0 in omega arith, sym (rw (e, f)))
 
   pub digit-none : (leb 48 b && leb b 57) ≡ false → (leb 97 b && leb b 102) ≡ false → 16 ≡ digit b
   unfolding digit
@@ -206,7 +206,7 @@ module _ {high low : ℕ} (x y : ℕ) (eh : high ≡ digit x) (el : low ≡ digi
   unfolding pair
   pair-none e = let t : (ltb (digit x) 16 && ltb (digit y) 16) ≡ false = rw (eh, el) at e in sym (rw t)
 
--- ---- numbers
+-- ____ numbers
 
 -- before a turn of the loop over the first len bytes of b: n is the number that i of them write
 pub record Counting (b : List ℕ) (len n i : ℕ) : Type 0 where
@@ -240,7 +240,7 @@ counting_end {line} {out} {b} {at} {len} {next} {n} {i} s h r =
     let q : i ≡ len = omega (arith, s.bound) in
     s.value ∙ ap (λ (l : List ℕ). big_endian l % 2 ^ 64) (ap (λ (k : ℕ). take k b) q ∙ reads_word r)
 
--- ---- equality
+-- ____ equality
 
 -- a line that is not longer than the name
 pub begins_not : (line name : List ℕ) → length line ≤ length name → false ≡ begins line name
@@ -262,20 +262,20 @@ pub record Alike (a b : List ℕ) (i : ℕ) : Type 0 where
   pub rest : same_bytes (drop i a) (drop i b) ≡ same_bytes a b
 
 module _ {a b : List ℕ} where
-  pub alike-start : length a ≡ length b → Alike a b 0
-  alike-start e = record { sizes = e; rest = refl }
+  pub alike_start : length a ≡ length b → Alike a b 0
+  alike_start e = record { sizes = e; rest = refl }
 
   module _ {i : ℕ} (s : Alike a b i) where
     here : i < length a → same_bytes (get_or a i 0 ∷ drop (i + 1) a) (get_or b i 0 ∷ drop (i + 1) b) ≡ same_bytes a b
     here h = ap₂ same_bytes (sym (from a i h)) (sym (from b i (omega (arith, s.sizes)))) ∙ s.rest
 
-    pub alike-turn : i < length a → get_or a i 0 ≡ get_or b i 0 → Alike a b (i + 1)
+    pub alike_turn : i < length a → get_or a i 0 ≡ get_or b i 0 → Alike a b (i + 1)
     unfolding same_bytes
-    alike-turn h e = record { sizes = s.sizes; rest = sym (rw (eq-eqb (get_or a i 0) (get_or b i 0) e)) ∙ here h }
+    alike_turn h e = record { sizes = s.sizes; rest = sym (rw (eq-eqb (get_or a i 0) (get_or b i 0) e)) ∙ here h }
 
-    pub alike-not : i < length a → (get_or a i 0 ≡ get_or b i 0 → ⊥) → false ≡ same_bytes a b
+    pub alike_not : i < length a → (get_or a i 0 ≡ get_or b i 0 → ⊥) → false ≡ same_bytes a b
     unfolding same_bytes
-    alike-not h e = sym (rw (ne_eqb (get_or a i 0) (get_or b i 0) e)) ∙ here h
+    alike_not h e = sym (rw (ne_eqb (get_or a i 0) (get_or b i 0) e)) ∙ here h
 
     pub alike_end : length a ≤ i → true ≡ same_bytes a b
     unfolding same_bytes

@@ -30,8 +30,8 @@ module _ (b : Bool) where
   pub writes : (value out out' : List ℕ) → b ≡ true → out' ≡ value → Writes b value out out' 0
   writes value out out' t e = record { number = rw t; bytes = rw t e }
 
-  pub writes-not : (value out : List ℕ) → b ≡ false → Writes b value out out 40
-  writes-not value out f = record { number = rw f; bytes = rw f }
+  pub writes_not : (value out : List ℕ) → b ≡ false → Writes b value out out 40
+  writes_not value out f = record { number = rw f; bytes = rw f }
 
   pub seals : (body tag text text' place place' : List ℕ) → b ≡ true → text' ≡ body → place' ≡ tag → Seals b body tag text text' place place' 0
   seals body tag text text' place place' t e d = record { number = rw t; bytes = rw t e; tagged = rw t d }
@@ -55,7 +55,7 @@ writes_value {v} {out} n value l e w =
       bytes = w.bytes ∙ ap₂ (λ (k : ℕ) (x : List ℕ). cond (eqb (length out) k) x out) l e;
     }
 
--- ---- the tests of lengths
+-- ____ the tests of lengths
 
 pub three : (a b c : Bool) → (a && b && c) ≡ true → (a ≡ true) × (b ≡ true) × (c ≡ true)
 three a b c e =
@@ -71,15 +71,15 @@ five a b c d f e =
     (t.0, t.1, t.2, q.1, p.1)
 
 module _ (key nonce text : List ℕ) where
-  pub ctr-sized : ctr_fits key nonce text ≡ true → (is_key_length (length key) ≡ true) × (length nonce ≡ 12) × (length text < 2 ^ 32 - 2 ^ 17)
-  ctr-sized e =
+  pub ctr_sized : ctr_fits key nonce text ≡ true → (is_key_length (length key) ≡ true) × (length nonce ≡ 12) × (length text < 2 ^ 32 - 2 ^ 17)
+  ctr_sized e =
       let p = three (is_key_length (length key)) (eqb (length nonce) 12) (ltb (length text) (2 ^ 32 - 2 ^ 17)) e in
       (p.0, eqb-true (length nonce) 12 p.1, ltb-true (length text) (2 ^ 32 - 2 ^ 17) p.2)
 
   module _ (aad tag : List ℕ) where
-    pub ccm-sized : ccm_fits key nonce aad tag text ≡ true
+    pub ccm_sized : ccm_fits key nonce aad tag text ≡ true
         → (is_key_length (length key) ≡ true) × (length nonce ≡ 11) × (length aad ≡ 32) × (length tag ≡ 16) × (length text < 2 ^ 32 - 16)
-    ccm-sized e =
+    ccm_sized e =
         let p = five (is_key_length (length key)) (eqb (length nonce) 11) (eqb (length aad) 32) (eqb (length tag) 16) (ltb (length text) (2 ^ 32 - 16)) e in (
           p.0,
           eqb-true (length nonce) 11 p.1,
@@ -88,9 +88,9 @@ module _ (key nonce text : List ℕ) where
           ltb-true (length text) (2 ^ 32 - 16) p.4,
         )
 
-    pub gcm-sized : gcm_fits key nonce aad tag text ≡ true
+    pub gcm_sized : gcm_fits key nonce aad tag text ≡ true
         → (is_key_length (length key) ≡ true) × (length nonce ≡ 12) × (length aad < 2 ^ 32 - 16) × (length tag ≡ 16) × (length text < 2 ^ 32 - 16)
-    gcm-sized e =
+    gcm_sized e =
         let p = five (is_key_length (length key)) (eqb (length nonce) 12) (ltb (length aad) (2 ^ 32 - 16)) (eqb (length tag) 16)
         (ltb (length text) (2 ^ 32 - 16)) e in (
           p.0,

@@ -1,5 +1,7 @@
 // Published vectors of the primitives: reads lines of operations from standard input and writes a line of results for each.
 // The file `stdin` has the published inputs, and `stdout`, with which the output is compared, the published results.
+#![tactic(auto)]
+
 mod block_cipher;
 mod codes;
 mod hashes;

@@ -13,7 +13,7 @@ use Rattle.trace_format.specs.Format.{bad_file_head, read_file_head_by, read_fil
 use Rattle.trace_format.specs.Format.{read_head, size_in, readable}
 use Rattle.trace_format.specs.Format.{Reading, found, end, unreadable, read_at, after_head, read_in_by, read_in}
 
--- ---- the file head
+-- ____ the file head
 
 pub file-short : (f : Bytes) → length f < 4 → bad_file_head ≡ read_file_head f
 unfolding read_file_head_by good_file_head
@@ -24,9 +24,9 @@ module _ (f : Bytes) (long : 4 ≤ length f) (h : ℕ) (is : h ≡ head_in f) wh
   unfolding good_file_head
   file-known b e = rw (le-leb 4 (length f) long) (ap (λ (i : ℕ). known (edition_in i)) (sym is) ∙ e)
 
-  pub file-unknown : (longest : ℕ) → longest ≡ (edition_of (edition_in h)).longest → longest ≡ 0 → bad_file_head ≡ read_file_head f
+  pub file_unknown : (longest : ℕ) → longest ≡ (edition_of (edition_in h)).longest → longest ≡ 0 → bad_file_head ≡ read_file_head f
   unfolding read_file_head_by
-  file-unknown l e z = rw (file-known false (ap (ltb 0) (sym e ∙ z)))
+  file_unknown l e z = rw (file-known false (ap (ltb 0) (sym e ∙ z)))
 
   pub file-good : (longest : ℕ) → longest ≡ (edition_of (edition_in h)).longest → (longest ≡ 0 → ⊥)
       → file_head (edition_in h) (dialect_in h) (cipher_in h) ≡ read_file_head f
@@ -34,7 +34,7 @@ module _ (f : Bytes) (long : 4 ≤ length f) (h : ℕ) (is : h ≡ head_in f) wh
   file-good l e n =
       rw (file-known true (ap (ltb 0) (sym e) ∙ lt-ltb 0 l (omega arith))) (ap (λ (i : ℕ). file_head (edition_in i) (dialect_in i) (cipher_in i)) is)
 
--- ---- the head of a record
+-- ____ the head of a record
 
 pub head-short : (e : Edition) (s : Bytes) → length s < 4 → bad_head ≡ read_head e s
 unfolding read_head good_head
@@ -52,9 +52,9 @@ module _ (e : Edition) (s : Bytes) (long : 4 ≤ length s) (h : ℕ) (is : h ≡
         ap (λ (u : ℕ). eqb (h % u) 0 && admitted e (kind_in h) (h % 268435456 / u)) (sym its)
         ∙ ap (λ (b : Bool). eqb (h % unit) 0 && b) (sym said)
 
-    pub head-bad : not (eqb (h % unit) 0 && admits) ≡ true → bad_head ≡ read_head e s
+    pub head_bad : not (eqb (h % unit) 0 && admits) ≡ true → bad_head ≡ read_head e s
     unfolding read_head
-    head-bad t = rw (head_is false (judged ∙ not-true _ t))
+    head_bad t = rw (head_is false (judged ∙ not-true _ t))
 
     pub head-good : not (eqb (h % unit) 0 && admits) ≡ false → head (kind_in h) (from_server_in h) (h % 268435456 / unit) ≡ read_head e s
     unfolding read_head
@@ -63,7 +63,7 @@ module _ (e : Edition) (s : Bytes) (long : 4 ≤ length s) (h : ℕ) (is : h ≡
         (ap (λ (u : ℕ). head (kind_in h) (from_server_in h) (h % 268435456 / u)) its
         ∙ ap (λ (i : ℕ). head (kind_in i) (from_server_in i) (length_in e i)) is)
 
--- ---- a record, from its head
+-- ____ a record, from its head
 
 picked : (b : Bool) (k' n' k n : ℕ) (d' d : Bool) → cond b (head k' d' n') bad_head ≡ head k d n → (b ≡ true) × (k' ≡ k) × (d' ≡ d) × (n' ≡ n)
 picked true k' n' k n d' d e = (refl, cc, cc, cc)
@@ -97,9 +97,9 @@ module _ (e : Edition) (f : Bytes) (p : ℕ) where
   at-end h = rw (le-leb (length f) p h)
 
   module _ (inside : p < length f) where
-    pub at-bad : bad_head ≡ read_head e (drop p f) → unreadable ≡ read_at e f p
+    pub at_bad : bad_head ≡ read_head e (drop p f) → unreadable ≡ read_at e f p
     unfolding read_at readable read_head
-    at-bad t = rw (lt-leb (length f) p inside, spoiled (good_head e (drop p f)) _ _ _ (sym t))
+    at_bad t = rw (lt-leb (length f) p inside, spoiled (good_head e (drop p f)) _ _ _ (sym t))
 
     module _ (k : ℕ) (d : Bool) (n : ℕ) (t : head k d n ≡ read_head e (drop p f)) where
       pub at_cut : length f - p - 4 < n → unreadable ≡ read_at e f p
@@ -121,7 +121,7 @@ module _ (e : Edition) (f : Bytes) (p : ℕ) where
           let q : p + 4 + n ≡ p + size_in e (drop p f) = omega arith in
           rw (lt-leb (length f) p inside, h.good, le-leb (size_in e (drop p f)) (length (drop p f)) (omega arith), q, ← h.kind, ← h.from-server, ← h.size)
 
--- ---- a record that was read
+-- ____ a record that was read
 
 pub readable-good : (e : Edition) (s : Bytes) → readable e s ≡ true → (good_head e s ≡ true) × (size_in e s ≤ length s)
 unfolding readable
@@ -182,9 +182,9 @@ was e f p k d q n r t =
       inside = omega arith;
     }
 
-not_end-of : (b : Bool) (x : Reading) → (end ≡ x → ⊥) → end ≡ cond b x unreadable → ⊥
-not_end-of true x n e = n e
-not_end-of false x n e = let z : ◌≡◌ {A = ℕ} 0 1 = cc in absurd (omega arith)
+not_end_of : (b : Bool) (x : Reading) → (end ≡ x → ⊥) → end ≡ cond b x unreadable → ⊥
+not_end_of true x n e = n e
+not_end_of false x n e = let z : ◌≡◌ {A = ℕ} 0 1 = cc in absurd (omega arith)
 
 not_found : (k : ℕ) (d : Bool) (q n r : ℕ) → end ≡ found k d q n r → ⊥
 not_found k d q n r e = let z : ◌≡◌ {A = ℕ} 0 1 = cc in absurd (omega arith)
@@ -195,7 +195,7 @@ unfolding read_at
 not_end e f p h t =
     let s = drop p f in
     let r = found (kind_in (head_in s)) (from_server_in (head_in s)) (p + 4) (length_in e (head_in s)) (p + size_in e s) in
-    not_end-of (readable e s) r (not_found _ _ _ _ _) (t ∙ ap (λ (b : Bool). cond b end (cond (readable e s) r unreadable)) (lt-leb (length f) p h))
+    not_end_of (readable e s) r (not_found _ _ _ _ _) (t ∙ ap (λ (b : Bool). cond b end (cond (readable e s) r unreadable)) (lt-leb (length f) p h))
 
 -- a record of kind 3 has 24 bytes
 pub admitted_24 : (e : Edition) (k n : ℕ) → admitted e k n ≡ true → 3 ≤ k → 24 ≤ n
@@ -207,12 +207,12 @@ admitted_24 e k n t h =
     let z = eqb-true n 24 same in
     omega arith
 
--- ---- a record of a whole file
+-- ____ a record of a whole file
 
 module _ (f : Bytes) (p : ℕ) where
-  pub in-bad : bad_file_head ≡ read_file_head f → unreadable ≡ read_in f p
+  pub in_bad : bad_file_head ≡ read_file_head f → unreadable ≡ read_in f p
   unfolding read_in_by
-  in-bad t = ap (λ (h : FileReading). after_head edition_of h f p) t
+  in_bad t = ap (λ (h : FileReading). after_head edition_of h f p) t
 
   pub in-good : (e d c : ℕ) → file_head e d c ≡ read_file_head f → (r : Reading) → r ≡ read_at (edition_of e) f p → r ≡ read_in f p
   unfolding read_in_by

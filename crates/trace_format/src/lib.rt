@@ -1,4 +1,6 @@
 // The format of lab traces (RULES 16): what an edition fixes, and what reader and writer share.
+#![tactic(auto)]
+
 ghost use Rattle.std.specs.Prelude.{◌≡◌};
 ghost use Rattle.trace_format.specs.Format.{Edition, edition_of, admitted};
 ghost use Rattle.trace_format.specs.Records.{bit};

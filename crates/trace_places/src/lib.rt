@@ -1,4 +1,6 @@
 // What a reading or a writing of a lab trace says to a caller from C: a number, and what each place that was lent holds afterwards.
+#![tactic(auto)]
+
 ghost use Rattle.std.specs.Prelude.{◌≡◌};
 ghost use Rattle.trace_writer.specs.Answers.{written_of};
 ghost use Rattle.trace_reader.specs.Answers.{file_reading_of, reading_of};

@@ -1,4 +1,6 @@
 // The reader of lab traces (RULES 16): any bytes and any place get an answer.
+#![tactic(auto)]
+
 ghost use Rattle.std.specs.Prelude.{◌≡◌};
 ghost use Rattle.trace_format.specs.Format.{edition_of, read_file_head, read_head, read_at, read_in};
 ghost use Rattle.trace_reader.specs.Answers.{file_reading_of, head_reading_of, reading_of};

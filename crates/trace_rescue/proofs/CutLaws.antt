@@ -21,7 +21,7 @@ use Rattle.trace_reader.specs.contracts.Read.{the_type}
 use Rattle.trace_format.proofs.FormatLaws.{Was, readable-good}
 use Rattle.trace_rescue.specs.Rescue.{begins_message, is_found, passed}
 
--- ---- what a reading says of the bytes
+-- ____ what a reading says of the bytes
 
 ended : (a b : Bool) (x : Reading) (k p n q : ℕ) (d : Bool) → (a ≡ true → b ≡ false) → (x ≡ end) ⊎ (x ≡ unreadable)
     → cond a end (cond b (found k d p n q) unreadable) ≡ x → b ≡ false
@@ -43,11 +43,11 @@ module _ (e : Edition) (f : Bytes) (p : ℕ) where
       by false q = refl
 
   -- it was no record
-  pub was-not : (r : Read) → reading_of r ≡ read_at e f p → OneOf (1 ∷ 2 ∷ []) (tag_of the_type r) → readable e (drop p f) ≡ false
+  pub was_not : (r : Read) → reading_of r ≡ read_at e f p → OneOf (1 ∷ 2 ∷ []) (tag_of the_type r) → readable e (drop p f) ≡ false
   unfolding read_at
-  was-not (at.Record k d start n next) t o = absurd (miss (1 ∷ 2 ∷ []) 0 tt o)
-  was-not at.End t o = ended (leb (length f) p) (readable e (drop p f)) end _ _ _ _ _ (λ q. none_left (leb-true (length f) p q)) (inl refl) (sym t)
-  was-not at.Unreadable t o =
+  was_not (at.Record k d start n next) t o = absurd (miss (1 ∷ 2 ∷ []) 0 tt o)
+  was_not at.End t o = ended (leb (length f) p) (readable e (drop p f)) end _ _ _ _ _ (λ q. none_left (leb-true (length f) p q)) (inl refl) (sym t)
+  was_not at.Unreadable t o =
       ended (leb (length f) p) (readable e (drop p f)) unreadable _ _ _ _ _ (λ q. none_left (leb-true (length f) p q)) (inr refl) (sym t)
 
   pub not_found : readable e (drop p f) ≡ false → false ≡ is_found e (drop p f)
@@ -72,7 +72,7 @@ module _ (e : Edition) (f : Bytes) (p : ℕ) where
     pub the_size : 4 + n ≡ cond (readable e (drop p f)) (size_in e (drop p f)) 0
     the_size = rw w.is-readable (ap (λ (i : ℕ). 4 + i) (sym w.size))
 
--- ---- the search
+-- ____ the search
 
 pass_at : (e : Edition) (s xs : Bytes) (x : ℕ) (t : Bool) → s ≡ x ∷ xs → is_found e s ≡ t → passed e s ≡ cond t 0 (passed e xs + 1)
 unfolding passed
@@ -85,13 +85,13 @@ module _ (e : Edition) (f : Bytes) where
     pub high : p ≤ length f
     pub same : from + passed e (drop from f) ≡ p + passed e (drop p f)
 
-  pub seek-begins : (from : ℕ) → from ≤ length f → Seeking from from
-  seek-begins from h = record { low = omega arith; high = h; same = refl }
+  pub seek_begins : (from : ℕ) → from ≤ length f → Seeking from from
+  seek_begins from h = record { low = omega arith; high = h; same = refl }
 
   module _ (from p : ℕ) (s : Seeking from p) where
-    pub seek-end : length f ≤ p → p - from ≡ passed e (drop from f)
+    pub seek_end : length f ≤ p → p - from ≡ passed e (drop from f)
     unfolding passed
-    seek-end h =
+    seek_end h =
         let z : passed e (drop p f) ≡ 0 = ap (passed e) (drop_of_length-le f {i = p} h) in
         let a = s.same in
         let b = s.low in
@@ -105,8 +105,8 @@ module _ (e : Edition) (f : Bytes) where
           let b = s.low in
           omega arith
 
-      pub seek-on : t ≡ false → Seeking from (p + 1)
-      seek-on q =
+      pub seek_on : t ≡ false → Seeking from (p + 1)
+      seek_on q =
           let z : passed e (drop p f) ≡ passed e (drop (suc p) f) + 1 =
           pass_at e (drop p f) (drop (suc p) f) (get_or f p 0) false (drop-cons f p 0 inside) (sym says ∙ q) in
           let y : passed e (drop (p + 1) f) ≡ passed e (drop (suc p) f) = ap (λ (i : ℕ). passed e (drop i f)) (add-one p) in

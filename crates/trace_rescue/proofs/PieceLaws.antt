@@ -15,7 +15,7 @@ use Rattle.trace_rescue.specs.Rescue.{is_found, passed, Piece, kept, dropped, pi
 use Rattle.trace_rescue.specs.Answers.{Cuts, Measured, Fits, Writes}
 use Rattle.trace_rescue.specs.declared.cut.Cut.{Cut}
 
--- ---- a piece has a byte, and is inside
+-- ____ a piece has a byte, and is inside
 
 one_more : (t : Bool) (k l : ℕ) → k ≤ l → cond t 0 (k + 1) ≤ suc l
 one_more true k l h = omega arith
@@ -49,27 +49,27 @@ bounds e s false q h =
 pub piece_bounds : (e : Edition) (s : Bytes) → 0 < length s → (1 ≤ piece_length e s) × (piece_length e s ≤ length s)
 piece_bounds e s h = bounds e s (readable e s) refl h
 
--- ---- the piece at a place, as the code cuts it
+-- ____ the piece at a place, as the code cuts it
 
 module _ (e : Edition) (f : Bytes) (p : ℕ) (here : p < length f) (n : ℕ) (says : n ≡ cond (readable e (drop p f)) (size_in e (drop p f)) 0) where
   some_left : 0 < length (drop p f)
   some_left = let l = length-drop p f in omega arith
 
-  size-says : (t : Bool) → readable e (drop p f) ≡ t → n ≡ cond t (size_in e (drop p f)) 0
-  size-says t q = says ∙ ap (λ (u : Bool). cond u (size_in e (drop p f)) 0) q
+  size_says : (t : Bool) → readable e (drop p f) ≡ t → n ≡ cond t (size_in e (drop p f)) 0
+  size_says t q = says ∙ ap (λ (u : Bool). cond u (size_in e (drop p f)) 0) q
 
   is-kept : (n ≡ 0 → ⊥) → readable e (drop p f) ≡ true
   is-kept h = by (readable e (drop p f)) refl
     where
       by : (t : Bool) → readable e (drop p f) ≡ t → t ≡ true
       by true q = refl
-      by false q = absurd (h (size-says false q))
+      by false q = absurd (h (size_says false q))
 
   is-dropped : n ≡ 0 → readable e (drop p f) ≡ false
   is-dropped z = by (readable e (drop p f)) refl
     where
       by : (t : Bool) → readable e (drop p f) ≡ t → t ≡ false
-      by true q = let s = size-says true q in absurd (omega arith)
+      by true q = let s = size_says true q in absurd (omega arith)
       by false q = refl
 
   cuts : (t : Bool) (m : ℕ) → readable e (drop p f) ≡ t → m ≡ piece_length e (drop p f) → Cuts e f p (record { good = t; len = m })
@@ -80,12 +80,12 @@ module _ (e : Edition) (f : Bytes) (p : ℕ) (here : p < length f) (n : ℕ) (sa
       let b1 = b.1 in
       record { good = sym q; len = em; some = omega arith; inside = omega arith }
 
-  pub cut-kept : (n ≡ 0 → ⊥) → Cuts e f p (record { good = true; len = n })
-  cut-kept h = let q = is-kept h in cuts true n q (size-says true q ∙ sym (kept-length e (drop p f) q))
+  pub cut_kept : (n ≡ 0 → ⊥) → Cuts e f p (record { good = true; len = n })
+  cut_kept h = let q = is-kept h in cuts true n q (size_says true q ∙ sym (kept-length e (drop p f) q))
 
   module _ (m : ℕ) (after : m ≡ passed e (drop (p + 1) f)) (z : n ≡ 0) where
-    pub cut-dropped : Cuts e f p (record { good = false; len = m + 1 })
-    cut-dropped =
+    pub cut_dropped : Cuts e f p (record { good = false; len = m + 1 })
+    cut_dropped =
         let q = is-dropped z in
         cuts false (m + 1) q
         (ap (λ (i : ℕ). i + 1) (after ∙ ap (passed e) (sym (drop-drop 1 p f))) ∙ sym (dropped-length e (drop p f) q))
@@ -96,7 +96,7 @@ module _ (e : Edition) (f : Bytes) (p : ℕ) (here : p < length f) (n : ℕ) (sa
         let l = length-drop (p + 1) f in
         omega arith
 
--- ---- the list of pieces
+-- ____ the list of pieces
 
 pieces_none : (m : ℕ) (e : Edition) → pieces_some m e [] ≡ []
 unfolding pieces_some
@@ -131,7 +131,7 @@ length-gap_numbers p [] = refl
 length-gap_numbers p (kept b ∷ ps) = length-gap_numbers (p + length b) ps
 length-gap_numbers p (dropped b ∷ ps) = let h = length-gap_numbers (p + length b) ps in omega arith
 
--- ---- a turn of either pass: the piece c at place p
+-- ____ a turn of either pass: the piece c at place p
 
 module _ (e : Edition) (f : Bytes) (p : ℕ) (here : p < length f) (c : Cut) (cut : Cuts e f p c) where
   abbrev n : ℕ
@@ -169,9 +169,9 @@ module _ (e : Edition) (f : Bytes) (p : ℕ) (here : p < length f) (c : Cut) (cu
   unfolding gap_count
   kept-count q = ap gap_count (on-kept q)
 
-  pub kept-numbers : c.good ≡ true → gap_numbers p (pieces e (drop p f)) ≡ gap_numbers (p + c.len) (pieces e (drop (p + c.len) f))
+  pub kept_numbers : c.good ≡ true → gap_numbers p (pieces e (drop p f)) ≡ gap_numbers (p + c.len) (pieces e (drop (p + c.len) f))
   unfolding gap_numbers
-  kept-numbers q = ap (gap_numbers p) (on-kept q) ∙ ap (λ (i : ℕ). gap_numbers (p + i) (pieces e (drop (p + c.len) f))) b-length
+  kept_numbers q = ap (gap_numbers p) (on-kept q) ∙ ap (λ (i : ℕ). gap_numbers (p + i) (pieces e (drop (p + c.len) f))) b-length
 
   pub dropped-bytes : c.good ≡ false → kept_bytes (pieces e (drop p f)) ≡ kept_bytes (pieces e (drop (p + c.len) f))
   unfolding kept_bytes
@@ -181,16 +181,16 @@ module _ (e : Edition) (f : Bytes) (p : ℕ) (here : p < length f) (c : Cut) (cu
   unfolding gap_count
   dropped-count q = ap gap_count (on-dropped q)
 
-  pub dropped-numbers : c.good ≡ false
+  pub dropped_numbers : c.good ≡ false
       → gap_numbers p (pieces e (drop p f)) ≡ (p ∷ c.len ∷ []) ++ gap_numbers (p + c.len) (pieces e (drop (p + c.len) f))
   unfolding gap_numbers
-  dropped-numbers q = ap (gap_numbers p) (on-dropped q) ∙ ap (λ (i : ℕ). p ∷ i ∷ gap_numbers (p + i) (pieces e (drop (p + c.len) f))) b-length
+  dropped_numbers q = ap (gap_numbers p) (on-dropped q) ∙ ap (λ (i : ℕ). p ∷ i ∷ gap_numbers (p + i) (pieces e (drop (p + c.len) f))) b-length
 
 -- nothing left
 pub no_pieces : (e : Edition) (f : Bytes) (p : ℕ) → length f ≤ p → pieces e (drop p f) ≡ []
 no_pieces e f p h = ap (pieces e) (drop_of_length-le f {i = p} h) ∙ pieces_none 0 e
 
--- ---- the first pass
+-- ____ the first pass
 
 module _ (e : Edition) (f : Bytes) where
   -- it has come to p, with so many bytes and gaps
@@ -198,16 +198,16 @@ module _ (e : Edition) (f : Bytes) where
     pub high : p ≤ length f
     pub small : bytes ≤ p
     pub few : gaps ≤ p
-    pub bytes-all : bytes + length (kept_bytes (pieces e (drop p f))) ≡ length (kept_bytes (pieces e (drop 4 f)))
-    pub gaps-all : gaps + gap_count (pieces e (drop p f)) ≡ gap_count (pieces e (drop 4 f))
+    pub bytes_all : bytes + length (kept_bytes (pieces e (drop p f))) ≡ length (kept_bytes (pieces e (drop 4 f)))
+    pub gaps_all : gaps + gap_count (pieces e (drop p f)) ≡ gap_count (pieces e (drop 4 f))
 
-  pub measure-begins : 4 ≤ length f → Measuring 4 0 0
-  measure-begins h = record { high = h; small = omega arith; few = omega arith; bytes-all = zero-add _; gaps-all = zero-add _ }
+  pub measure_begins : 4 ≤ length f → Measuring 4 0 0
+  measure_begins h = record { high = h; small = omega arith; few = omega arith; bytes_all = zero-add _; gaps_all = zero-add _ }
 
   module _ (p bytes gaps : ℕ) (m : Measuring p bytes gaps) where
-    pub measure-ends : length f ≤ p → Measured (pieces e (drop 4 f)) (record { kept = bytes; gaps = gaps })
+    pub measure_ends : length f ≤ p → Measured (pieces e (drop 4 f)) (record { kept = bytes; gaps = gaps })
     unfolding kept_bytes gap_count
-    measure-ends h =
+    measure_ends h =
         let z = no_pieces e f p h in
         let a : length (kept_bytes (pieces e (drop p f))) ≡ 0 = ap (λ (ps : List Piece). length (kept_bytes ps)) z in
         let b : gap_count (pieces e (drop p f)) ≡ 0 = ap gap_count z in
@@ -216,8 +216,8 @@ module _ (e : Edition) (f : Bytes) where
         record { kept = omega arith; gaps = omega arith }
 
     module _ (here : p < length f) (c : Cut) (cut : Cuts e f p c) where
-      pub measure-kept : c.good ≡ true → Measuring (p + c.len) (bytes + c.len) gaps
-      measure-kept q =
+      pub measure_kept : c.good ≡ true → Measuring (p + c.len) (bytes + c.len) gaps
+      measure_kept q =
           let l = ap length (kept-bytes e f p here c cut q) ∙ length-append (take c.len (drop p f)) (kept_bytes (pieces e (drop (p + c.len) f))) in
           let k = b-length e f p here c cut in
           let g = kept-count e f p here c cut q in
@@ -226,10 +226,10 @@ module _ (e : Edition) (f : Bytes) where
           let s = m.small in
           let t = m.few in
           let i = cut.inside in
-          record { high = i; small = omega arith; few = omega arith; bytes-all = omega arith; gaps-all = omega arith }
+          record { high = i; small = omega arith; few = omega arith; bytes_all = omega arith; gaps_all = omega arith }
 
-      pub measure-dropped : c.good ≡ false → Measuring (p + c.len) bytes (gaps + 1)
-      measure-dropped q =
+      pub measure_dropped : c.good ≡ false → Measuring (p + c.len) bytes (gaps + 1)
+      measure_dropped q =
           let l = ap length (dropped-bytes e f p here c cut q) in
           let g = dropped-count e f p here c cut q in
           let x = m.bytes-all in
@@ -238,16 +238,16 @@ module _ (e : Edition) (f : Bytes) where
           let t = m.few in
           let i = cut.inside in
           let o = cut.some in
-          record { high = i; small = omega arith; few = omega arith; bytes-all = omega arith; gaps-all = omega arith }
+          record { high = i; small = omega arith; few = omega arith; bytes_all = omega arith; gaps_all = omega arith }
 
--- ---- the second pass, with what is lent
+-- ____ the second pass, with what is lent
 
 module _ (e : Edition) (f room₀ list₀ : Bytes) where
   abbrev all : Bytes
   all = kept_bytes (pieces e (drop 4 f))
 
-  abbrev gaps-all : List ℕ
-  gaps-all = gap_numbers 4 (pieces e (drop 4 f))
+  abbrev gaps_all : List ℕ
+  gaps_all = gap_numbers 4 (pieces e (drop 4 f))
 
   -- it has come to p; what is left to write, written now, gives what is due
   pub record Placing (p w k : ℕ) (room list : Bytes) : Type 0 where
@@ -256,9 +256,9 @@ module _ (e : Edition) (f room₀ list₀ : Bytes) where
     pub list_left : 2 * k + 2 * gap_count (pieces e (drop p f)) ≤ length list
     pub room-length : length room ≡ length room₀
     pub list_length : length list ≡ length list₀
-    pub room-due : paste room w (kept_bytes (pieces e (drop p f))) (length (kept_bytes (pieces e (drop p f)))) ≡ paste room₀ 4 all (length all)
-    pub list-due : paste list (2 * k) (gap_numbers p (pieces e (drop p f))) (length (gap_numbers p (pieces e (drop p f))))
-        ≡ paste list₀ 0 gaps-all (length gaps-all)
+    pub room_due : paste room w (kept_bytes (pieces e (drop p f))) (length (kept_bytes (pieces e (drop p f)))) ≡ paste room₀ 4 all (length all)
+    pub list_due : paste list (2 * k) (gap_numbers p (pieces e (drop p f))) (length (gap_numbers p (pieces e (drop p f))))
+        ≡ paste list₀ 0 gaps_all (length gaps_all)
 
   pub place-begins : Fits f (pieces e (drop 4 f)) room₀ list₀ → Placing 4 4 0 room₀ list₀
   place-begins fit =
@@ -269,8 +269,8 @@ module _ (e : Edition) (f room₀ list₀ : Bytes) where
         list_left = omega arith;
         room-length = refl;
         list_length = refl;
-        room-due = refl;
-        list-due = refl;
+        room_due = refl;
+        list_due = refl;
       }
 
   module _ (p w k : ℕ) (room list : Bytes) (m : Placing p w k room list) where
@@ -315,12 +315,12 @@ module _ (e : Edition) (f room₀ list₀ : Bytes) where
             list_left = omega arith;
             room-length = omega arith;
             list_length = m.list_length;
-            room-due =
+            room_due =
                 ap₂ (λ (x : Bytes) (i : ℕ). paste x (w + i) (kept_bytes left) (length (kept_bytes left))) er (sym lb)
                 ∙ paste_two room w piece (kept_bytes left) (omega arith)
                 ∙ ap (λ (x : Bytes). paste room w x (length x)) (sym (kept-bytes e f p here c cut q))
                 ∙ m.room-due;
-            list-due = ap (λ (x : List ℕ). paste list (2 * k) x (length x)) (sym (kept-numbers e f p here c cut q)) ∙ m.list-due;
+            list_due = ap (λ (x : List ℕ). paste list (2 * k) x (length x)) (sym (kept_numbers e f p here c cut q)) ∙ m.list-due;
           }
 
       -- the part of the file as the code lends it
@@ -337,8 +337,8 @@ module _ (e : Edition) (f room₀ list₀ : Bytes) where
           let r = place-room q in
           omega arith
 
-      pub place-list : c.good ≡ false → 2 * k + 2 ≤ length list
-      place-list q = let g = dropped-count e f p here c cut q in let r = m.list_left in omega arith
+      pub place_list : c.good ≡ false → 2 * k + 2 ≤ length list
+      place_list q = let g = dropped-count e f p here c cut q in let r = m.list_left in omega arith
 
       pub place-dropped : c.good ≡ false → (list' : Bytes) → list' ≡ paste list (2 * k) (p ∷ c.len ∷ []) 2
           → Placing (p + c.len) w (k + 1) room list'
@@ -358,10 +358,10 @@ module _ (e : Edition) (f room₀ list₀ : Bytes) where
             list_left = omega arith;
             room-length = m.room-length;
             list_length = omega arith;
-            room-due = ap (λ (x : Bytes). paste room w x (length x)) (sym (dropped-bytes e f p here c cut q)) ∙ m.room-due;
-            list-due =
+            room_due = ap (λ (x : Bytes). paste room w x (length x)) (sym (dropped-bytes e f p here c cut q)) ∙ m.room-due;
+            list_due =
                 ap₂ (λ (x : Bytes) (i : ℕ). paste x i rest (length rest)) el k2
                 ∙ paste_two list (2 * k) a rest (omega arith)
-                ∙ ap (λ (x : Bytes). paste list (2 * k) x (length x)) (sym (dropped-numbers e f p here c cut q))
+                ∙ ap (λ (x : Bytes). paste list (2 * k) x (length x)) (sym (dropped_numbers e f p here c cut q))
                 ∙ m.list-due;
           }

@@ -17,7 +17,7 @@ use Rattle.trace_rescue.specs.Answers.{Measured, Fits, Writes, Rescues}
 use Rattle.trace_rescue.specs.declared.Sizes.{Sizes}
 use Rattle.trace_rescue.specs.declared.Rescuing.TheVariants.{Done, Refused}
 
--- ---- the room
+-- ____ the room
 
 pub no_head : (k g n m : ℕ) → n < 4 → false ≡ (leb (4 + k) n && leb (2 * g) m)
 no_head k g n m h = rw (lt-leb (4 + k) n (omega arith))
@@ -28,7 +28,7 @@ both_fit k g n m h =
     (leb_same k (n - 4) (4 + k) n (λ i. omega arith) (λ i. omega arith))
     (leb_same g (m / 2) (2 * g) m (λ i. omega arith) (λ i. omega arith))
 
--- ---- the file head
+-- ____ the file head
 
 told : (t : Bool) (e' d' c' e d c : ℕ) → cond t (file_head e' d' c') bad_file_head ≡ file_head e d c → (t ≡ true) × (e' ≡ e)
 told true e' d' c' e d c q = (refl, cc)
@@ -107,7 +107,7 @@ module _ (f room list : Bytes) where
             gaps = rw r (w.gaps ∙ ap (λ (x : List Piece). paste list 0 (gap_numbers 4 x) (length (gap_numbers 4 x))) same);
           }
 
--- ---- the file head, then the records
+-- ____ the file head, then the records
 
 pub four_bytes : (f : Bytes) → 4 ≤ length f → length (take 4 f) ≡ 4
 four_bytes f h = simp length-take (omega arith)

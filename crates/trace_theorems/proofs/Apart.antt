@@ -45,9 +45,9 @@ module _ (e : Edition) (m : ℕ) (s : Bytes) (four : 4 ≤ m) where
             leb_same (size_in e s) (length (take m s)) (size_in e s) (length s) (λ h. omega arith) (λ h. omega arith)
         by false q = refl
 
-    pub same-record : readable e s ≡ true → record_in e (take m s) ≡ record_in e s
+    pub same_record : readable e s ≡ true → record_in e (take m s) ≡ record_in e s
     unfolding record_in
-    same-record q =
+    same_record q =
         let g = readable-good e s q in
         let h = holds g.0 in
         ap {B = Record} (λ (x : ℕ). record { kind = kind_in x; from_server = from_server_in x; payload = take (length_in e x) (drop 4 (take m s)) }) same_head

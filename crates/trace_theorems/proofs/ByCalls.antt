@@ -14,7 +14,7 @@ use Rattle.trace_format.specs.Format.{Bytes, Edition, edition_of, head_in, file_
 use Rattle.trace_format.specs.Format.{Reading, found, read_at, read_in}
 use Rattle.trace_format.specs.Records.{Record, record_in, Contents, before, read_all, records_bytes, bit, written_edition, head_readable, head_writable}
 use Rattle.trace_format.specs.Records.{file_head_bytes}
-use Rattle.trace_format.proofs.FormatLaws.{at-end, at-unreadable, at-readable, was, in-bad, in-good}
+use Rattle.trace_format.proofs.FormatLaws.{at-end, at-unreadable, at-readable, was, in_bad, in-good}
 use Rattle.trace_writer.specs.Answers.{up_to, refused}
 use Rattle.trace_format.proofs.ByteLaws.{length-file_head_bytes}
 use Rattle.trace_places.specs.Places.{place_behind, reading_number}
@@ -23,7 +23,7 @@ use Rattle.trace_theorems.specs.Traces.{file_of}
 use Rattle.trace_theorems.proofs.RoundTrip.{parts}
 use Rattle.trace_theorems.proofs.Lists.{stop, past, empty, read_on, read_stop, wrote, whole-file}
 
--- ---- one call
+-- ____ one call
 
 same_direction : (d : Bool) → not (eqb (bit d) 0) ≡ d
 same_direction true = refl
@@ -45,9 +45,9 @@ module _ (f : Bytes) (e : Edition) (l : Places) where
   abbrev after : Places
   after = places_after there l
 
-  same-record : record_at f after ≡ record_in e s
+  same_record : record_at f after ≡ record_in e s
   unfolding record_in
-  same-record =
+  same_record =
       λ i. record {
         kind = kind_in (head_in s);
         from_server = same_direction (from_server_in (head_in s)) i;
@@ -62,26 +62,26 @@ module _ (f : Bytes) (e : Edition) (l : Places) where
       ap (λ (b : Bool). cond (true && not b) (before (record_at f after) (found_by n f after)) (stop (drop after.at f)))
       (ne_eqb (length_in e (head_in s)) 0 (λ z. omega arith))
 
--- ---- from place to place
+-- ____ from place to place
 
 module _ (f : Bytes) (e : Edition) where
-  turn-found : (n : ℕ) (l : Places) → length f ≤ l.at + suc n
+  turn_found : (n : ℕ) (l : Places) → length f ≤ l.at + suc n
       → ((l : Places) → length f ≤ l.at + n → found_by n f l ≡ read_all e (drop l.at f))
       → (a b : Bool) → leb (length f) l.at ≡ a → readable e (drop l.at f) ≡ b → turn f n l (read_at e f l.at) ≡ read_all e (drop l.at f)
-  turn-found n l h ih true b qa qb =
+  turn_found n l h ih true b qa qb =
       let p = l.at in
       let x = leb-true (length f) p qa in
       ap (turn f n l) (sym (at-end e f p x)) ∙ sym (empty (length (drop p f)) e (drop p f) (omega (arith, length-drop p f)))
-  turn-found n l h ih false false qa qb =
+  turn_found n l h ih false false qa qb =
       let p = l.at in
       ap (turn f n l) (sym (at-unreadable e f p (leb-false (length f) p qa) qb)) ∙ sym (read_stop e (drop p f) qb)
-  turn-found n l h ih false true qa qb =
+  turn_found n l h ih false true qa qb =
       let p = l.at in
       let s : Bytes = drop p f in
       let size = (past e s qb).0 in
       ap (turn f n l) (sym (at-readable e f p qb))
       ∙ turn_on f e l n qb
-      ∙ ap₂ before (same-record f e l) (ih (after f e l) (omega arith) ∙ ap (read_all e) (sym (drop-drop (size_in e s) p f)))
+      ∙ ap₂ before (same_record f e l) (ih (after f e l) (omega arith) ∙ ap (read_all e) (sym (drop-drop (size_in e s) p f)))
       ∙ sym (read_on e s qb)
 
   found_from : ((p : ℕ) → read_in f p ≡ read_at e f p) → (n : ℕ) (l : Places) → length f ≤ l.at + n → found_by n f l ≡ read_all e (drop l.at f)
@@ -89,7 +89,7 @@ module _ (f : Bytes) (e : Edition) where
   found_from is zero l h = sym (empty (length (drop l.at f)) e (drop l.at f) (omega (arith, length-drop l.at f)))
   found_from is (suc n) l h =
       ap (turn f n l) (is l.at)
-      ∙ turn-found n l h (found_from is n) (leb (length f) l.at) (readable e (drop l.at f)) refl refl
+      ∙ turn_found n l h (found_from is n) (leb (length f) l.at) (readable e (drop l.at f)) refl refl
 
 pub found_all : (f : Bytes) (e d c n : ℕ) (l : Places) → read_file_head f ≡ file_head e d c → length f ≤ l.at + n
     → found_by n f l ≡ read_all (edition_of e) (drop l.at f)
@@ -98,9 +98,9 @@ found_all f e d c n l t h = found_from f (edition_of e) (λ p. sym (in-good f p 
 pub found_none : (f : Bytes) (n : ℕ) (l : Places) → read_file_head f ≡ bad_file_head → found_by n f l ≡ record { records = []; rest = drop l.at f }
 unfolding found_by
 found_none f zero l t = refl
-found_none f (suc n) l t = ap (turn f n l) (sym (in-bad f l.at (sym t)))
+found_none f (suc n) l t = ap (turn f n l) (sym (in_bad f l.at (sym t)))
 
--- ---- what the calls of the writer wrote
+-- ____ what the calls of the writer wrote
 
 module _ (d c : ℕ) (w : Room) (hd : d < 65536) (hc : c < 256) (four : 4 ≤ length w.bytes) where
   abbrev e : Edition

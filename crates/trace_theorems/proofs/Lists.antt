@@ -28,7 +28,7 @@ use Rattle.trace_theorems.proofs.RoundTrip.{octets_drop, Sound, sound, reads, st
 abbrev pub stop : Bytes → Contents
 stop s = record { records = []; rest = s }
 
--- ---- reading, one record at a time
+-- ____ reading, one record at a time
 
 pub past : (e : Edition) (s : Bytes) → readable e s ≡ true → (4 ≤ size_in e s) × (size_in e s ≤ length s)
 past e s t = let g = readable-good e s t in (omega arith, g.1)
@@ -71,7 +71,7 @@ unfolding read_some
 read_stop e [] t = refl
 read_stop e (x ∷ xs) t = rw t
 
--- ---- what was written is read
+-- ____ what was written is read
 
 abbrev pub joined : List Record → Contents → Contents
 joined rs c = record { records = rs ++ c.records; rest = c.rest }
@@ -102,7 +102,7 @@ same_records n rs w =
     ap (read_all e) (sym (append-nil (records_bytes e rs))) ∙ written_read n rs [] w
     ∙ ap (joined rs) (nothing_left e) ∙ ap (λ (x : List Record). record { records = x; rest = [] }) (append-nil rs)
 
--- ---- what was read is written as it stood
+-- ____ what was read is written as it stood
 
 module _ (e : Edition) (ok : Sound e) where
   again : (t : Bool) (r : Record) (a : Contents) (s : Bytes) → (t ≡ true → record_bytes e r ++ (records_bytes e a.records ++ a.rest) ≡ s)
@@ -137,7 +137,7 @@ read_written n {s} o = back (edition_of n) (sound n) (length s) o
 pub all_read_writable : (n : ℕ) (s : Bytes) → all_writable (edition_of n) (read_all (edition_of n) s).records ≡ true
 all_read_writable n s = each (edition_of n) (sound n) (length s) s
 
--- ---- a list of calls of the writer, refused ones included
+-- ____ a list of calls of the writer, refused ones included
 
 pub record Wrote (e : Edition) (rs : List Record) (w : Room) : Type 0 where
   pub bytes : take (write_list e rs w).at (write_list e rs w).bytes ≡ take w.at w.bytes ++ records_bytes e (accepted e rs w)
@@ -224,7 +224,7 @@ calls_read n rs w h =
     ∙ ap (read_all e) (drop_at (take w.at w.bytes) (records_bytes e (accepted e rs w)) w.at l)
     ∙ same_records n (accepted e rs w) k.admitted
 
--- ---- whole files
+-- ____ whole files
 
 -- a file head, and whatever stands behind it
 pub file_read : (n d c : ℕ) (s : Bytes) → head_readable n c ≡ true → n < 256 → d < 65536

@@ -20,7 +20,7 @@ use Rattle.trace_theorems.specs.Traces.{Octets, none, more}
 use Rattle.trace_format.proofs.FormatLaws.{four_there, readable-good}
 use Rattle.trace_format.proofs.ByteLaws.{length-record_head, bit_small}
 
--- ---- four bytes
+-- ____ four bytes
 
 above : (q r : ℕ) → r < 256 → (q * 256 + r) / 256 ≡ q
 above q r h = omega arith
@@ -61,7 +61,7 @@ octets_drop zero o = o
 octets_drop (suc n) none = none
 octets_drop (suc n) (more x o) = octets_drop n o
 
--- ---- the fields of a record's head
+-- ____ the fields of a record's head
 
 bit-of : (x : ℕ) → x < 2 → bit (eqb x 1) ≡ x
 bit-of zero h = refl
@@ -109,7 +109,7 @@ sound n = by (eqb n 1) (eqb n 2)
     by false true = sound_2
     by false false = sound_none
 
--- ---- one record
+-- ____ one record
 
 pub parts : (e : Edition) (k n : ℕ) → admitted e k n ≡ true → (k ≤ 3) × (1 ≤ n) × (n ≤ e.longest)
 parts e k n t =
@@ -147,8 +147,8 @@ module _ (e : Edition) (ok : Sound e) (r : Record) (rest : Bytes) (w : writable 
       length-append (record_head e r.kind r.from_server (length r.payload)) r.payload
       ∙ ap (λ (m : ℕ). m + length r.payload) (length-record_head e r.kind r.from_server (length r.payload))
 
-  length-s : length s ≡ 4 + length r.payload + length rest
-  length-s = length-append (record_bytes e r) rest ∙ ap (λ (m : ℕ). m + length rest) length-bytes
+  length_s : length s ≡ 4 + length r.payload + length rest
+  length_s = length-append (record_bytes e r) rest ∙ ap (λ (m : ℕ). m + length rest) length-bytes
 
   fields : (number < 4294967296) × (kind_in number ≡ r.kind) × (number / 268435456 % 2 ≡ bit r.from_server)
       × (length_in e number ≡ length r.payload) × (number % e.unit ≡ 0)
@@ -163,8 +163,8 @@ module _ (e : Edition) (ok : Sound e) (r : Record) (rest : Bytes) (w : writable 
   is-kind : kind_in (head_in s) ≡ r.kind
   is-kind = ap kind_in is_number ∙ fields.1
 
-  is-from : from_server_in (head_in s) ≡ r.from_server
-  is-from = ap from_server_in is_number ∙ ap (λ (x : ℕ). eqb x 1) fields.2 ∙ of-bit r.from_server
+  is_from : from_server_in (head_in s) ≡ r.from_server
+  is_from = ap from_server_in is_number ∙ ap (λ (x : ℕ). eqb x 1) fields.2 ∙ of-bit r.from_server
 
   is-length : length_in e (head_in s) ≡ length r.payload
   is-length = ap (length_in e) is_number ∙ fields.3
@@ -172,7 +172,7 @@ module _ (e : Edition) (ok : Sound e) (r : Record) (rest : Bytes) (w : writable 
   is-good : good_head e s ≡ true
   unfolding good_head
   is-good =
-      let l = length-s in
+      let l = length_s in
       rw (le-leb 4 (length s) (omega arith), eq-eqb (head_in s % e.unit) 0 (ap (λ (h : ℕ). h % e.unit) is_number ∙ fields.4))
       (ap₂ (admitted e) is-kind is-length ∙ w)
 
@@ -182,7 +182,7 @@ module _ (e : Edition) (ok : Sound e) (r : Record) (rest : Bytes) (w : writable 
   pub reads : Reads e r rest
   unfolding readable record_in
   reads =
-      let l = length-s in
+      let l = length_s in
       let z = is-size in
       let b = length-bytes in
       record {
@@ -190,7 +190,7 @@ module _ (e : Edition) (ok : Sound e) (r : Record) (rest : Bytes) (w : writable 
         same =
             λ i. record {
               kind = is-kind i;
-              from_server = is-from i;
+              from_server = is_from i;
               payload = (ap₂ (λ (m : ℕ) (t : Bytes). take m t) is-length tail ∙ take_at r.payload rest (length r.payload) refl) i;
             };
         size = is-size;

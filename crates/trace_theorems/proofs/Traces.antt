@@ -8,7 +8,7 @@ use Rattle.trace_theorems.specs.Traces.{Traces}
 use Rattle.trace_theorems.proofs.RoundTrip.{sound, reads, read_writable}
 use Rattle.trace_theorems.proofs.Lists.{calls_read, whole-file, file_read, head_back, read_written, all_read_writable}
 use Rattle.trace_theorems.proofs.ByCalls.{found_all, found_none, written-found}
-use Rattle.trace_theorems.proofs.Apart.{same-readable, same-record}
+use Rattle.trace_theorems.proofs.Apart.{same-readable, same_record}
 use Rattle.trace_theorems.proofs.Editions.{other_edition, first_read, one_written, first-refuses}
 
 pub traces : Traces
@@ -36,7 +36,7 @@ traces =
       reading_apart =
           record {
             other_edition = other_edition edition_of;
-            front-enough = λ n m s four holds. (same-readable (edition_of n) m s four holds, same-record (edition_of n) m s four holds);
+            front-enough = λ n m s four holds. (same-readable (edition_of n) m s four holds, same_record (edition_of n) m s four holds);
           };
       two_editions = record { first_read = first_read; one_written = one_written; first-refuses = first-refuses };
     }

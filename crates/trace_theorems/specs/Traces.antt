@@ -65,7 +65,7 @@ pub record ReadingApart : Type 0 where
 
 -- two editions
 pub record TwoEditions : Type 0 where
-  -- "New readers read both editions": whatever the edition 1 reader reads, at every place of the file
+  -- "new readers read both editions": whatever the edition 1 reader reads, at every place of the file
   pub first_read : (f : Bytes) (e d c : ℕ) → read_file_head_by first_editions f ≡ file_head e d c
       → (read_file_head f ≡ file_head e d c) × ((p : ℕ) → read_in f p ≡ read_in_by first_editions f p)
   -- "a new writer writes edition 2 only, and answers 36 to an edition 1 head"

@@ -8,15 +8,15 @@ use Rattle.trace_window.specs.declared.Cursor.{Cursor}
 use Rattle.trace_window.specs.declared.Step.TheVariants.{Turn, Read, Begin, Passed, CutOff}
 use Rattle.trace_window.specs.Window.{held, by_head, in_window, next_of, passed, begun, took, behind, MovesUp}
 
--- ---- what comes next
+-- ____ what comes next
 
 module _ (r : HeadReading) (m : ℕ) (ended : Bool) where
   module _ (t : bad_head ≡ r) where
-    pub bad-turn : (leb 4 m || ended) ≡ true → Turn ≡ by_head r m ended
-    bad-turn e = sym (rw e) ∙ ap (λ (h : HeadReading). by_head h m ended) t
+    pub bad_turn : (leb 4 m || ended) ≡ true → Turn ≡ by_head r m ended
+    bad_turn e = sym (rw e) ∙ ap (λ (h : HeadReading). by_head h m ended) t
 
-    pub bad-read : (leb 4 m || ended) ≡ false → Read ≡ by_head r m ended
-    bad-read e = sym (rw e) ∙ ap (λ (h : HeadReading). by_head h m ended) t
+    pub bad_read : (leb 4 m || ended) ≡ false → Read ≡ by_head r m ended
+    bad_read e = sym (rw e) ∙ ap (λ (h : HeadReading). by_head h m ended) t
 
   module _ {k n : ℕ} {d : Bool} (t : head k d n ≡ r) where
     pub good-long : held < n → Begin n ≡ by_head r m ended
@@ -29,9 +29,9 @@ module _ (r : HeadReading) (m : ℕ) (ended : Bool) where
     good-read h e = sym (rw (le-ltb held n h, e)) ∙ ap (λ (h : HeadReading). by_head h m ended) t
 
 module _ (e : Edition) (c : Cursor) (w : Bytes) where
-  pub next-cut : 0 < c.left → c.ended ≡ true → CutOff ≡ next_of e c w
+  pub next_cut : 0 < c.left → c.ended ≡ true → CutOff ≡ next_of e c w
   unfolding next_of
-  next-cut h t = sym (rw (lt-ltb 0 c.left h, t))
+  next_cut h t = sym (rw (lt-ltb 0 c.left h, t))
 
   pub next_more : 0 < c.left → c.ended ≡ false → Read ≡ next_of e c w
   unfolding next_of
@@ -41,7 +41,7 @@ module _ (e : Edition) (c : Cursor) (w : Bytes) where
   unfolding next_of
   next-passed h i = sym (rw (le-ltb 0 c.left h, lt-ltb 0 c.size i))
 
--- ---- where the window is
+-- ____ where the window is
 
 pub begun_by : (c : Cursor) (n x : ℕ) → x ≡ (4 + n) % 2 ^ 64
     → passed (record { at = c.at; have = c.have; left = x; size = x; ended = c.ended; place = c.place; index = c.index }) ≡ begun n c
@@ -62,7 +62,7 @@ pub behind_by : (c : Cursor) (n q x y : ℕ) → x ≡ (c.place + n) % 2 ^ 64 �
 behind_by c n q x y e f =
     ap₂ {C = Cursor} (λ (a b : ℕ). record { at = q; have = c.have; left = 0; size = 0; ended = c.ended; place = a; index = b }) e f
 
--- ---- bytes that are moved
+-- ____ bytes that are moved
 
 still : (d s : Bytes) (j k : ℕ) → j ≤ length s → get_or (paste d 0 s j) (j + k) 0 ≡ get_or d (j + k) 0
 still d s j k h =
@@ -82,14 +82,14 @@ moving_start w at n = record { bytes = paste-zero w 0 (drop at w); some = omega 
 
 module _ {w w' : Bytes} {at n j : ℕ} (have : ℕ) (e : n ≡ min have (length w) - at) (s : Moving w at n j w') where
   -- both places are inside
-  pub moving-from : j < n → at + j < length w'
-  moving-from h = omega (arith, s.kept)
+  pub moving_from : j < n → at + j < length w'
+  moving_from h = omega (arith, s.kept)
 
-  pub moving-to : j < n → j < length w'
-  moving-to h = omega (arith, s.kept)
+  pub moving_to : j < n → j < length w'
+  moving_to h = omega (arith, s.kept)
 
-  pub moving-turn : j < n → Moving w at n (j + 1) (set w' j (get_or w' (at + j) 0))
-  moving-turn h =
+  pub moving_turn : j < n → Moving w at n (j + 1) (set w' j (get_or w' (at + j) 0))
+  moving_turn h =
       let l = length-drop at w in
       let p : at + j ≡ j + at = omega arith in
       let there : j ≤ length (drop at w) = omega arith in
@@ -105,7 +105,7 @@ module _ {w w' : Bytes} {at n j : ℕ} (have : ℕ) (e : n ≡ min have (length 
         kept = length-set w' j (get_or w' (at + j) 0) ∙ s.kept;
       }
 
-  pub moving-end : n ≤ j → MovesUp w at have n w'
-  moving-end h =
+  pub moving_end : n ≤ j → MovesUp w at have n w'
+  moving_end h =
       let q : j ≡ min have (length w) - at = omega (arith, s.some) in
       record { count = e; bytes = s.bytes ∙ ap (paste w 0 (drop at w)) q }

@@ -1,5 +1,7 @@
 // What a replay decides about the window through which it reads its file: when there is more to read, when a record has its turn, how much is
 // passed over of one that is not held, and where the next one begins.
+#![tactic(auto)]
+
 ghost use Rattle.std.specs.Prelude.{◌≡◌, ◌-◌, min, length, take, drop};
 ghost use Rattle.trace_format.specs.Format.{edition_of, read_head};
 ghost use Rattle.trace_window.specs.Window as window;

@@ -42,7 +42,7 @@ and_false : (b : Bool) → (b && false) ≡ false
 and_false true = refl
 and_false false = refl
 
--- ---- the answers
+-- ____ the answers
 
 module _ (ok : Bool) (b room : Bytes) (p : ℕ) where
   pub not-read : ok ≡ false → Writes ok b room p (Refused 36) room
@@ -58,7 +58,7 @@ module _ (ok : Bool) (b room : Bytes) (p : ℕ) where
       → Writes ok b room p (UpTo n) after
   written e h n after en ea = record { answer = rw (e, h) (ap up_to en); bytes = rw (e, h) ea }
 
--- ---- a record, as the code judges it
+-- ____ a record, as the code judges it
 
 module _ (e : Edition) (k : ℕ) (d : Bool) (pay room : Bytes) (at : ℕ) (admits : Bool) (said : admits ≡ admitted e k (length pay)) where
   abbrev r : Record
@@ -67,30 +67,30 @@ module _ (e : Edition) (k : ℕ) (d : Bool) (pay room : Bytes) (at : ℕ) (admit
   size : length (record_bytes e r) ≡ 4 + length pay
   size = length-append (record_head e k d (length pay)) pay ∙ ap (λ (n : ℕ). n + length pay) (length-record_head e k d (length pay))
 
-  pub record-admitted : not admits ≡ false → admitted e k (length pay) ≡ true
-  record-admitted t = sym said ∙ not-false _ t
+  pub record_admitted : not admits ≡ false → admitted e k (length pay) ≡ true
+  record_admitted t = sym said ∙ not-false _ t
 
-  pub record-not-read : not admits ≡ true → Writes (writable e r) (record_bytes e r) room at (Refused 36) room
-  record-not-read t = not-read (writable e r) (record_bytes e r) room at (sym said ∙ not-true _ t)
+  pub record_not-read : not admits ≡ true → Writes (writable e r) (record_bytes e r) room at (Refused 36) room
+  record_not-read t = not-read (writable e r) (record_bytes e r) room at (sym said ∙ not-true _ t)
 
   module _ (holds : Bool) (inside : holds ≡ leb (at + (4 + length pay)) (length room)) where
     fitting : (b : Bool) → holds ≡ b → leb (at + length (record_bytes e r)) (length room) ≡ b
     fitting b t = ap (λ (n : ℕ). leb (at + n) (length room)) size ∙ sym inside ∙ t
 
-    pub record-not-held : not holds ≡ true → Writes (writable e r) (record_bytes e r) room at (Refused 36) room
-    record-not-held t = not-held (writable e r) (record_bytes e r) room at (fitting false (not-true _ t))
+    pub record_not-held : not holds ≡ true → Writes (writable e r) (record_bytes e r) room at (Refused 36) room
+    record_not-held t = not-held (writable e r) (record_bytes e r) room at (fitting false (not-true _ t))
 
-    pub record-inside : not holds ≡ false → at + (4 + length pay) ≤ length room
-    record-inside t = leb-true _ _ (sym inside ∙ not-false _ t)
+    pub record_inside : not holds ≡ false → at + (4 + length pay) ≤ length room
+    record_inside t = leb-true _ _ (sym inside ∙ not-false _ t)
 
     pub record_written : not admits ≡ false → not holds ≡ false → (head after : Bytes) → head ≡ record_head e k d (length pay)
         → after ≡ paste room at (head ++ pay) (length (head ++ pay)) → Writes (writable e r) (record_bytes e r) room at (UpTo (at + 4 + length pay)) after
     record_written a h head after eh ea =
         let z = size in
-        written (writable e r) (record_bytes e r) room at (record-admitted a) (fitting true (not-false _ h)) (at + 4 + length pay) after
+        written (writable e r) (record_bytes e r) room at (record_admitted a) (fitting true (not-false _ h)) (at + 4 + length pay) after
         (omega arith) (ea ∙ ap (λ (x : Bytes). paste room at (x ++ pay) (length (x ++ pay))) eh)
 
--- ---- a file head
+-- ____ a file head
 
 module _ (e d c : ℕ) (room : Bytes) where
   pub head-other : (e ≡ written_edition → ⊥) → Writes (head_writable e c) (file_head_bytes e d c) room 0 (Refused 36) room

@@ -1,4 +1,6 @@
 // The writer of lab traces (RULES 16): one edition, into lent room.
+#![tactic(auto)]
+
 ghost use Rattle.std.specs.Prelude.{◌≡◌, ◌+◌, ◌*◌, ◌≤◌, ◌<◌, true, ◌++◌, leb, length};
 ghost use Rattle.std.proofs.Math.Seq.{paste};
 ghost use Rattle.trace_format.specs.Format.{edition_of, admitted};

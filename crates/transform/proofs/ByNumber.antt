@@ -37,27 +37,27 @@ module _ (n : ℕ) (x : Cipher) (named : cipher_of n ≡ x) (key nonce auth : By
 
 module _ (n : ℕ) (key nonce auth iv : Bytes) (b : Bool) (told : b ≡ is_gcm n) where
   module _ (yes : b ≡ true) (ei : iv ≡ gcm_nonce nonce) where
-    pub gcm-applied : (text text' : Bytes) → text' ≡ gcm.encrypt (aes key) iv text → text' ≡ (cipher_of n).encrypt key nonce auth text
-    gcm-applied text text' e = applied n aes_gcm (gcm_named n b told yes) key nonce auth text text' (rw ei at e)
+    pub gcm_applied : (text text' : Bytes) → text' ≡ gcm.encrypt (aes key) iv text → text' ≡ (cipher_of n).encrypt key nonce auth text
+    gcm_applied text text' e = applied n aes_gcm (gcm_named n b told yes) key nonce auth text text' (rw ei at e)
 
-    pub gcm-sealed : (text text' r : Bytes) → gcm-calls.Sealed (aes key) iv auth text text' r → Enciphered (cipher_of n) key nonce auth text text' r
-    gcm-sealed text text' r s = let s' = rw ei at s in sealed n aes_gcm (gcm_named n b told yes) key nonce auth text text' r s'.bytes s'.tagged
+    pub gcm_sealed : (text text' r : Bytes) → gcm-calls.Sealed (aes key) iv auth text text' r → Enciphered (cipher_of n) key nonce auth text text' r
+    gcm_sealed text text' r s = let s' = rw ei at s in sealed n aes_gcm (gcm_named n b told yes) key nonce auth text text' r s'.bytes s'.tagged
 
-    pub gcm-opened : (received body body' : Bytes) (r : Bool) → gcm-calls.Opened (aes key) iv auth received body body' r
+    pub gcm_opened : (received body body' : Bytes) (r : Bool) → gcm-calls.Opened (aes key) iv auth received body body' r
         → Deciphered (cipher_of n) key nonce auth received body body' r
-    gcm-opened received body body' r o =
+    gcm_opened received body body' r o =
         let o' = rw ei at o in
         opened n aes_gcm (gcm_named n b told yes) key nonce auth received body body' r o'.right o'.bytes
 
   module _ (no : b ≡ false) (ei : iv ≡ ccm_nonce nonce) where
-    pub ccm-applied : (text text' : Bytes) → text' ≡ ccm.encrypt (aes key) iv text → text' ≡ (cipher_of n).encrypt key nonce auth text
-    ccm-applied text text' e = applied n aes_ccm (ccm_named n b told no) key nonce auth text text' (rw ei at e)
+    pub ccm_applied : (text text' : Bytes) → text' ≡ ccm.encrypt (aes key) iv text → text' ≡ (cipher_of n).encrypt key nonce auth text
+    ccm_applied text text' e = applied n aes_ccm (ccm_named n b told no) key nonce auth text text' (rw ei at e)
 
-    pub ccm-sealed : (text text' r : Bytes) → ccm-calls.Sealed (aes key) iv auth text text' r → Enciphered (cipher_of n) key nonce auth text text' r
-    ccm-sealed text text' r s = let s' = rw ei at s in sealed n aes_ccm (ccm_named n b told no) key nonce auth text text' r s'.bytes s'.tagged
+    pub ccm_sealed : (text text' r : Bytes) → ccm-calls.Sealed (aes key) iv auth text text' r → Enciphered (cipher_of n) key nonce auth text text' r
+    ccm_sealed text text' r s = let s' = rw ei at s in sealed n aes_ccm (ccm_named n b told no) key nonce auth text text' r s'.bytes s'.tagged
 
-    pub ccm-opened : (received body body' : Bytes) (r : Bool) → ccm-calls.Opened (aes key) iv auth received body body' r
+    pub ccm_opened : (received body body' : Bytes) (r : Bool) → ccm-calls.Opened (aes key) iv auth received body body' r
         → Deciphered (cipher_of n) key nonce auth received body body' r
-    ccm-opened received body body' r o =
+    ccm_opened received body body' r o =
         let o' = rw ei at o in
         opened n aes_ccm (ccm_named n b told no) key nonce auth received body body' r o'.right o'.bytes

@@ -25,9 +25,9 @@ module _ (m : Bytes) where
       ∙ ap (λ (z : Bytes). take 52 m ++ z) (append-nil ys)
 
   -- what stands after the header is changed where the answer is done, and so is the message
-  pub when-inner : (a : Answer) (p : Bytes) → take 52 m ++ when_done a (λ n. p) (inner m) ≡ when_done a (λ n. take 52 m ++ p) m
-  when-inner (done n) p = refl
-  when-inner (refused n) p = take-append-drop 52 m
+  pub when_inner : (a : Answer) (p : Bytes) → take 52 m ++ when_done a (λ n. p) (inner m) ≡ when_done a (λ n. take 52 m ++ p) m
+  when_inner (done n) p = refl
+  when_inner (refused n) p = take-append-drop 52 m
 
 -- what the first tests let pass
 pub sized : (c : Connection) (key m : Bytes) → First c key m → Sized m

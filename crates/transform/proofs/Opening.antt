@@ -19,34 +19,34 @@ use Rattle.protocol.specs.InnerHeader.{Envelope}
 use Rattle.protocol.specs.Compound.{walk}
 use Rattle.protocol.specs.Refusals.{other_session, bad_tag}
 use Rattle.protocol.specs.Ciphers.{cipher_of}
-use Rattle.protocol.specs.Transform.{plaintextUnder, opened_to}
+use Rattle.protocol.specs.Transform.{plaintext_under, opened_to}
 use Rattle.protocol.specs.Calls.{sent_by, opening_under, only_message, key_tests, message_tests, header_tests, text_tests, tests, effect, answer}
 use Rattle.protocol.specs.Contract.{Makes}
 use Rattle.protocol.specs.Suite.{suite, ciphers}
 use Rattle.protocol.proofs.AnswerLaws.{when_done_lem, when_refused, when_part, after_nothing}
-use Rattle.protocol.proofs.CallLaws.{makes-when, makes-refused}
+use Rattle.protocol.proofs.CallLaws.{makes_when, makes_refused}
 use Rattle.protocol.proofs.First.{First, first-passed}
-use Rattle.protocol.proofs.FirstOf.{first-of_both}
+use Rattle.protocol.proofs.FirstOf.{first_of_both}
 use Rattle.protocol.proofs.Judging.{refuses, passes, judge-passed, judge-append}
 use Rattle.protocol.proofs.SuiteLaws.{suite_sound}
 use Rattle.transform_header.specs.Reading.{header_in}
 use Rattle.transform_header.proofs.HeaderIn.{header-there}
 use Rattle.transform.specs.Steps.{Deciphered, size_then_walk, deciphered, OpensBody, OpensMessage}
-use Rattle.transform.proofs.Inner.{lent, back, when-inner}
+use Rattle.transform.proofs.Inner.{lent, back, when_inner}
 
 module _ (h : TransformHeader) (e : Envelope) (n : ℕ) (text : Bytes) where
-  pub size-differs : (h.size ≡ n → ⊥) → refused 10 ≡ size_then_walk h e n text
-  size-differs d = sym (rw (ne_eqb h.size n d))
+  pub size_differs : (h.size ≡ n → ⊥) → refused 10 ≡ size_then_walk h e n text
+  size_differs d = sym (rw (ne_eqb h.size n d))
 
-  pub size-agrees : h.size ≡ n → walk text e ≡ size_then_walk h e n text
-  size-agrees d = sym (rw (eq-eqb h.size n d))
+  pub size_agrees : h.size ≡ n → walk text e ≡ size_then_walk h e n text
+  size_agrees d = sym (rw (eq-eqb h.size n d))
 
 -- the body, from the tag on: text is what the cipher left, and r whether the tag was right
 module _ (cipher : ℕ) (key : Bytes) (h : TransformHeader) (e : Envelope) (body text : Bytes) (r : Bool)
     (o : Deciphered (cipher_of cipher) key h.nonce h.authenticated_data h.signature body text r) where
-  pub tag-wrong : r ≡ false → OpensBody cipher key h e body text (refused 9)
+  pub tag_wrong : r ≡ false → OpensBody cipher key h e body text (refused 9)
   unfolding suite
-  tag-wrong q = go (deciphered cipher key h body) refl o.right o.bytes
+  tag_wrong q = go (deciphered cipher key h body) refl o.right o.bytes
     where
       go : (d : Option Bytes) → deciphered cipher key h body ≡ d → r ≡ is_some d → text ≡ get_or d body → OpensBody cipher key h e body text (refused 9)
       go none s f g = record { answer = rw s; bytes = g }
@@ -92,7 +92,7 @@ module _ (cipher : ℕ) (key : Bytes) (h : TransformHeader) (e : Envelope) (body
 module _ (cipher : ℕ) (key : Bytes) (e : Envelope) (m : Bytes) where
   pub message-opened : (h : TransformHeader) (text' : Bytes) (a : Answer) → h ≡ header_of m
       → OpensBody cipher key h e (take (length m - 52) (drop 52 m)) text' a → OpensMessage cipher key e m (put_mid 52 (length m - 52) m text') a
-  unfolding plaintextUnder
+  unfolding plaintext_under
   message-opened h text' a eh o =
       let o' : OpensBody cipher key (header_of m) e (inner m) text' a = rw (eh, lent m) at o in
       record {
@@ -100,51 +100,51 @@ module _ (cipher : ℕ) (key : Bytes) (e : Envelope) (m : Bytes) where
         bytes =
             back m text'
             ∙ ap (λ (z : Bytes). take 52 m ++ z) o'.bytes
-            ∙ when-inner m a (get_or (deciphered cipher key (header_of m) (inner m)) []);
+            ∙ when_inner m a (get_or (deciphered cipher key (header_of m) (inner m)) []);
       }
 
--- ---- the whole: c is what the connection agreed on
+-- ____ the whole: c is what the connection agreed on
 
 module _ (c : Connection) (key : Bytes) (id : ℕ) (m : Bytes) where
   -- the lines before the tag
-  abbrev pub linesBefore : List Test
-  linesBefore = key_tests c key ++ (message_tests c m ++ (header_tests c (header_of m) ++ (other_session (eqb (session_id_of m) id) ∷ [])))
+  abbrev pub lines_before : List Test
+  lines_before = key_tests c key ++ (message_tests c m ++ (header_tests c (header_of m) ++ (other_session (eqb (session_id_of m) id) ∷ [])))
 
   -- as the code tests them, a line after the other: what a message that is too short says after 2 counts for nothing
   pub lines-chained : (h : TransformHeader) (line6 line4 line1 n : ℕ) → h ≡ header_in m → line6 ≡ first_of (other_session (eqb h.session_id id) ∷ [])
-      → line4 ≡ first_else (header_tests c h) line6 → line1 ≡ first_else (message_tests c m) line4 → n ≡ first_else (key_tests c key) line1 → n ≡ first_of linesBefore
+      → line4 ≡ first_else (header_tests c h) line6 → line1 ≡ first_else (message_tests c m) line4 → n ≡ first_else (key_tests c key) line1 → n ≡ first_of lines_before
   lines-chained h line6 line4 line1 n e e6 e4 e1 e40 = e40 ∙ rw (e1, e4, e6, e) (go (leb (length m) 52) refl)
     where
       later : TransformHeader → ℕ
       later h = first_else (header_tests c h) (first_of (other_session (eqb h.session_id id) ∷ []))
 
-      go : (b : Bool) → leb (length m) 52 ≡ b → first_else (key_tests c key) (first_else (message_tests c m) (later (header_in m))) ≡ first_of linesBefore
+      go : (b : Bool) → leb (length m) 52 ≡ b → first_else (key_tests c key) (first_else (message_tests c m) (later (header_in m))) ≡ first_of lines_before
       go true b = rw b
       go false b = rw (header-there m (leb-false (length m) 52 b))
 
-  module _ (n : ℕ) (s : n ≡ first_of linesBefore) where
-    pub lines-refuse : (n ≡ 0 → ⊥) → Makes (opening_under c key id) (only_message m) (refused n) (only_message m)
+  module _ (n : ℕ) (s : n ≡ first_of lines_before) where
+    pub lines_refuse : (n ≡ 0 → ⊥) → Makes (opening_under c key id) (only_message m) (refused n) (only_message m)
     unfolding tests
-    lines-refuse h = makes-refused (opening_under c key id) (only_message m) (refused n) (sym (refuses linesBefore _ n s h)) refl
+    lines_refuse h = makes_refused (opening_under c key id) (only_message m) (refused n) (sym (refuses lines_before _ n s h)) refl
 
     module _ (z : n ≡ 0) where
       pub lines-passed : First c key m
       lines-passed =
           first-passed c key m 0
-          (sym (first-of_both (key_tests c key ++ message_tests c m) (header_tests c (header_of m) ++ (other_session (eqb (session_id_of m) id) ∷ [])) (sym s ∙ z))) refl
+          (sym (first_of_both (key_tests c key ++ message_tests c m) (header_tests c (header_of m) ++ (other_session (eqb (session_id_of m) id) ∷ [])) (sym s ∙ z))) refl
 
       pub message-opens : (used : ℕ) (e : Envelope) (m' : Bytes) (a : Answer) → used ≡ cipher_used c → e ≡ sent_by (other c.role) id → OpensMessage used key e m m' a
           → Makes (opening_under c key id) (only_message m) a (only_message m')
       unfolding tests effect
       message-opens used e m' a eu ee o =
           let o' : OpensMessage (cipher_used c) key (sent_by (other c.role) id) m m' a = rw (eu, ee) at o in
-          let text = plaintextUnder ciphers (cipher_used c) key m in
+          let text = plaintext_under ciphers (cipher_used c) key m in
           let walked = walk (get_or text []) (sent_by (other c.role) id) in
-          let none = passes linesBefore n refl s z in
-          makes-when (opening_under c key id) (only_message m) a
+          let none = passes lines_before n refl s z in
+          makes_when (opening_under c key id) (only_message m) a
           (o'.answer
-          ∙ sym (judge-passed linesBefore (judge (text_tests m text) walked) none)
-          ∙ sym (judge-append linesBefore (text_tests m text) walked)
-          ∙ ap (judge (linesBefore ++ text_tests m text)) (sym (after_nothing walked)))
+          ∙ sym (judge-passed lines_before (judge (text_tests m text) walked) none)
+          ∙ sym (judge-append lines_before (text_tests m text) walked)
+          ∙ ap (judge (lines_before ++ text_tests m text)) (sym (after_nothing walked)))
           (only_message m')
           (ap only_message o'.bytes ∙ when_part only_message a (opened_to m text) m)

@@ -16,12 +16,12 @@ use Rattle.protocol.specs.TransformHeader.{protocol_id, nonce_of, authenticated,
 use Rattle.protocol.specs.Compound.{walk}
 use Rattle.protocol.specs.Refusals.{counter_used_up}
 use Rattle.protocol.specs.Ciphers.{cipher_of}
-use Rattle.protocol.specs.Transform.{sealedUnder}
+use Rattle.protocol.specs.Transform.{sealed_under}
 use Rattle.protocol.specs.Calls.{sent_by, sealing_under, message_and_counter, key_tests, message_tests, tests, effect, answer}
 use Rattle.protocol.specs.Contract.{Makes}
 use Rattle.protocol.specs.Suite.{suite, ciphers}
 use Rattle.protocol.proofs.AnswerLaws.{after-done, after-refused}
-use Rattle.protocol.proofs.CallLaws.{makes-done}
+use Rattle.protocol.proofs.CallLaws.{makes_done}
 use Rattle.protocol.proofs.First.{First, first-passed}
 use Rattle.protocol.proofs.FirstOf.{none_first}
 use Rattle.protocol.proofs.Judging.{refused_judged, refuses, judge-passed, judge-done}
@@ -54,8 +54,8 @@ header-written m t auth x1 x2 x3 lt la e1 e2 e3 =
 module _ (cipher : ℕ) (key : Bytes) (counter id : ℕ) (m : Bytes) (sized : Sized m) where
   pub message-sealed : (nonce auth text' m2 t : Bytes) → nonce ≡ nonce_of counter → auth ≡ authenticated counter (length m - 52) id
       → Enciphered (cipher_of cipher) key nonce auth (take (length m - 52) (drop 52 m)) text' t
-      → m2 ≡ transform_message t auth (inner (put_mid 52 (length m - 52) m text')) → m2 ≡ sealedUnder ciphers cipher key counter id (inner m)
-  unfolding suite sealedUnder
+      → m2 ≡ transform_message t auth (inner (put_mid 52 (length m - 52) m text')) → m2 ≡ sealed_under ciphers cipher key counter id (inner m)
+  unfolding suite sealed_under
   message-sealed nonce auth text' m2 t en ea s e2 =
       let l = sized.long in
       let s' : Enciphered (cipher_of cipher) key nonce auth (inner m) text' t = rw (lent m) at s in
@@ -63,7 +63,7 @@ module _ (cipher : ℕ) (key : Bytes) (counter id : ℕ) (m : Bytes) (sized : Si
       (length-take-le 52 m (omega arith)) in
       e2 ∙ rw (body, s'.bytes, s'.tagged, ea, en, length-drop 52 m)
 
--- ---- the whole: c is what the connection agreed on, k the counter
+-- ____ the whole: c is what the connection agreed on, k the counter
 
 module _ (c : Connection) (key : Bytes) (id k : ℕ) (m : Bytes) where
   abbrev sealed : Answer
@@ -74,9 +74,9 @@ module _ (c : Connection) (key : Bytes) (id k : ℕ) (m : Bytes) where
   lines-chained line1 n e1 e40 = e40 ∙ rw e1
 
   module _ (n : ℕ) (s : n ≡ first_of (key_tests c key ++ message_tests c m)) where
-    pub lines-refuse : (n ≡ 0 → ⊥) → refused n ≡ sealed
+    pub lines_refuse : (n ≡ 0 → ⊥) → refused n ≡ sealed
     unfolding tests
-    lines-refuse h = sym (refuses (key_tests c key ++ message_tests c m) _ n s h)
+    lines_refuse h = sym (refuses (key_tests c key ++ message_tests c m) _ n s h)
 
   module _ (f : First c key m) (a : Answer) (w : a ≡ walk (inner m) (sent_by c.role id)) where
     so_far : sealed ≡ judge_after a (counter_used_up k ∷ [])
@@ -117,7 +117,7 @@ module _ (c : Connection) (key : Bytes) (id k : ℕ) (m : Bytes) where
         go : (b : Answer) → walk (inner m) (sent_by c.role id) ≡ b → ⊥
         go b q = true≢false (sym (ap is_refused e ∙ refused_judged (key_tests c key ++ message_tests c m) _ (last (walk (inner m) (sent_by c.role id)))) ∙ r)
 
-    pub seals : (used : ℕ) (m' : Bytes) → used ≡ cipher_used c → m' ≡ sealedUnder ciphers used key k id (inner m)
+    pub seals : (used : ℕ) (m' : Bytes) → used ≡ cipher_used c → m' ≡ sealed_under ciphers used key k id (inner m)
         → Makes (sealing_under c key id) (message_and_counter m k) a (message_and_counter m' (k + 1))
     unfolding effect
-    seals used m' eu em = makes-done (sealing_under c key id) (message_and_counter m k) a e r (message_and_counter m' (k + 1)) (rw (em, eu))
+    seals used m' eu em = makes_done (sealing_under c key id) (message_and_counter m k) a e r (message_and_counter m' (k + 1)) (rw (em, eu))

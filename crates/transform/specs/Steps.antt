@@ -11,11 +11,11 @@ use Rattle.protocol.specs.InnerHeader.{Envelope}
 use Rattle.protocol.specs.Compound.{walk}
 use Rattle.protocol.specs.Refusals.{bad_tag, bad_size}
 use Rattle.protocol.specs.Ciphers.{Cipher}
-use Rattle.protocol.specs.Transform.{plaintextUnder, opened_to}
+use Rattle.protocol.specs.Transform.{plaintext_under, opened_to}
 use Rattle.protocol.specs.Calls.{text_tests}
 use Rattle.protocol.specs.Suite.{ciphers}
 
--- ---- the ciphers by number, with the cipher x
+-- ____ the ciphers by number, with the cipher x
 
 -- sealing: the text becomes text', and r is the tag
 pub record Enciphered (x : Cipher) (key nonce auth text text' r : Bytes) : Type 0 where
@@ -27,7 +27,7 @@ pub record Deciphered (x : Cipher) (key nonce auth received body body' : Bytes) 
   pub right : r ≡ is_some (x.decrypt key nonce auth received body)
   pub bytes : body' ≡ get_or (x.decrypt key nonce auth received body) body
 
--- ---- messages
+-- ____ messages
 
 -- lengths that 2 and 3 let pass
 pub record Sized (m : Bytes) : Type 0 where
@@ -49,5 +49,5 @@ pub record OpensBody (cipher : ℕ) (key : Bytes) (h : TransformHeader) (e : Env
 
 -- the same of the message
 pub record OpensMessage (cipher : ℕ) (key : Bytes) (e : Envelope) (m m' : Bytes) (a : Answer) : Type 0 where
-  pub answer : a ≡ judge (text_tests m (plaintextUnder ciphers cipher key m)) (walk (get_or (plaintextUnder ciphers cipher key m) []) e)
-  pub bytes : m' ≡ when_done a (λ n. opened_to m (plaintextUnder ciphers cipher key m)) m
+  pub answer : a ≡ judge (text_tests m (plaintext_under ciphers cipher key m)) (walk (get_or (plaintext_under ciphers cipher key m) []) e)
+  pub bytes : m' ≡ when_done a (λ n. opened_to m (plaintext_under ciphers cipher key m)) m

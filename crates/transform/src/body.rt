@@ -4,7 +4,7 @@ ghost use Rattle.aes.specs.KeySizes.{is_key_length};
 ghost use Rattle.protocol.specs.Connection.{longest_message};
 ghost use Rattle.protocol.specs.TransformHeader.{header_of, inner, transform_message};
 ghost use Rattle.protocol.specs.Compound.{walk};
-ghost use Rattle.protocol.specs.Transform.{sealedUnder};
+ghost use Rattle.protocol.specs.Transform.{sealed_under};
 ghost use Rattle.protocol.specs.Suite.{ciphers};
 ghost use Rattle.answer.specs.Reading.{answer_of};
 ghost use Rattle.compound.specs.Reading.{envelope_of};
@@ -78,7 +78,7 @@ fn write_header(m: &mut [u8], tag: [u8; 16], aad: [u8; 32])
 // Seals the message in place once all tests have passed.
 pub fn seal_message(cipher: u16, key: &[u8], counter: u64, id: u64, m: &mut [u8])
     requires { (is_key_length (length key.now) ≡ true) × Sized m.old }
-    ensures { m.new ≡ sealedUnder ciphers cipher key.now counter id (inner m.old) }
+    ensures { m.new ≡ sealed_under ciphers cipher key.now counter id (inner m.old) }
 {
     let size = (m.len() - 52) as u32;
     let nonce = transform_header::nonce(counter);

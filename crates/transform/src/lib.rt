@@ -1,4 +1,6 @@
 // Sealing and opening in place under one given key (RULES 5 and 6; MS-SMB2 3.1.4.3, 3.2.5.1.1 and 3.3.5.2.1).
+#![tactic(auto)]
+
 mod body;
 mod cipher;
 

@@ -1,4 +1,6 @@
 // The transform header (RULES 4; MS-SMB2 2.2.41): read once into a struct, and the fields that sealing writes.
+#![tactic(auto)]
+
 ghost use Rattle.std.specs.Prelude.{◌≡◌};
 ghost use Rattle.protocol.specs.TransformHeader.{nonce_of, authenticated};
 ghost use Rattle.transform_header.specs.Reading.{header_from, header_in};

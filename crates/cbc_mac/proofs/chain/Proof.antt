@@ -8,7 +8,7 @@ use borrow.Author.Rules.{rules}
 use lib.ListN.{length}
 use Rattle.octets.specs.Blocks.{block_count, over_blocks}
 use Rattle.octets.specs.Xor.{xor}
-use Rattle.octets.proofs.BlockLaws.{over-turn}
+use Rattle.octets.proofs.BlockLaws.{over_turn}
 use Rattle.aes.specs.Cipher.{cipher}
 use Rattle.cbc_mac.specs.CbcMac.{cbc_mac}
 use Rattle.cbc_mac.proofs.chain.Statement.{statement}
@@ -28,7 +28,7 @@ loop-again : tie.Need-loop-preserved invariant-loop decreases-loop
 loop-again c =
     let k = c.before.before.before in
     let a = k.before.before.args in (
-      over-turn (λ y x. cipher a.rounds a.keys (xor y x)) a.y a.s.now k.loop.at 16 k.loop.z _
+      over_turn (λ y x. cipher a.rounds a.keys (xor y x)) a.y a.s.now k.loop.at 16 k.loop.z _
           (omega arith, omega arith) (omega arith) (omega arith) k.loop.invariant.0
           (c.next.ensures ∙ ap (λ (x : List ℕ). cipher a.rounds a.keys (xor k.loop.z x)) c.before.block_at.ensures),
       omega arith,
@@ -41,7 +41,7 @@ returns c =
     let a = k.before.before.args in
     let m : ℕ = length a.s.now - k.loop.at in
     let e : k.loop.at + m ≡ length a.s.now = omega arith in
-    over-turn (λ y x. cipher a.rounds a.keys (xor y x)) a.y a.s.now k.loop.at m k.loop.z _
+    over_turn (λ y x. cipher a.rounds a.keys (xor y x)) a.y a.s.now k.loop.at m k.loop.z _
     (omega arith, omega arith) (omega arith) (omega arith) k.loop.invariant.0
     (c.next2.ensures ∙ ap (λ (x : List ℕ). cipher a.rounds a.keys (xor k.loop.z x)) c.before.block-at2.ensures)
     ∙ ap (λ (n : ℕ). cbc_mac (cipher a.rounds a.keys) a.y a.s.now (block_count n)) e

@@ -1,7 +1,7 @@
 -- Right because the key stream, applied twice, gives the text back where the tag differs.
 -- Assumes nothing.
 use Rattle.aes.specs.Cipher.{cipher}
-use Rattle.ccm.proofs.Opening.{opened-right, opened-wrong}
+use Rattle.ccm.proofs.Opening.{opened-right, opened_wrong}
 use borrow.Author.Rules.{rules}
 use Rattle.ccm.proofs.open_with.Statement.{statement}
 use Rattle.ccm.proofs.open_with.Tie as tie
@@ -20,7 +20,7 @@ returns-2 c =
     let u = i.before.before.tag_of in
     let m = i.before.before.before.before.before.before.xor-key-stream in
     let a = i.before.before.before.before.before.before.before.before.before.args in
-    opened-wrong (cipher a.rounds a.keys) a.nonce a.aad a.tag a.text.now
+    opened_wrong (cipher a.rounds a.keys) a.nonce a.aad a.tag a.text.now
     m.new.1.1.1.1.0 u.result m.ensures u.ensures _ i.before.same-16.ensures _ i.if1.false
     c.before.before.xor-key-stream2.ensures
 

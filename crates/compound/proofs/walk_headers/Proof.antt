@@ -1,6 +1,6 @@
 -- Right because each turn is one step of `walkOn`: the header was refused by its tests' number, is the last, or leads to the next, which is judged (WalkLaws).
 -- Assumes nothing.
-use Rattle.compound.proofs.WalkLaws.{Judged, first-judged, next-judged, ends}
+use Rattle.compound.proofs.WalkLaws.{Judged, first_judged, next_judged, ends}
 use borrow.Author.Rules.{rules}
 use Rattle.compound.specs.Reading.{envelope_of}
 use lib.ListN.{length}
@@ -19,7 +19,7 @@ decreases-loop message e number₀ p₀ d₀ n₀ number p d n = length message 
 loop-holds : tie.Need-loop-init invariant-loop decreases-loop
 loop-holds c =
     let a = c.before.before.args in
-    first-judged a.message.now (envelope_of a.e) _ c.first-number.ensures
+    first_judged a.message.now (envelope_of a.e) _ c.first-number.ensures
 
 add-p : tie.Need-overflow-add-p invariant-loop decreases-loop
 add-p c = let w = c.before.loop.invariant.goes_on c.if1.false in omega (arith, w.inside)
@@ -42,7 +42,7 @@ loop-again : tie.Need-loop-preserved invariant-loop decreases-loop
 loop-again c =
     let a = c.before.before.before.before.before.before.before.args in
     let w = c.before.before.before.before.loop.invariant.goes_on c.before.before.before.if1.false in
-    next-judged a.message.now (envelope_of a.e) _ _ w _ c.before.before.next-command.ensures c.before.if2.false _ c.next-number.ensures
+    next_judged a.message.now (envelope_of a.e) _ _ w _ c.before.before.next-command.ensures c.before.if2.false _ c.next-number.ensures
 
 returns : tie.Need-returns invariant-loop decreases-loop
 returns c = sym (c.before.loop.invariant.stops c.if1.true)

@@ -2,7 +2,7 @@
 use mathlib.Core.Path.{sym, ◌∙◌}
 use borrow.Author.Rules.{rules}
 use Rattle.aes.specs.Cipher.{cipher}
-use Rattle.gcm.proofs.InPlace.{opened-right, opened-wrong}
+use Rattle.gcm.proofs.InPlace.{opened-right, opened_wrong}
 use Rattle.gcm.proofs.open_with.Statement.{statement}
 use Rattle.gcm.proofs.open_with.Tie as tie
 
@@ -19,7 +19,7 @@ returns-2 : tie.Need-returns-2
 returns-2 c =
     let t = c.before.before in
     let args = t.before.before.before.before.args in
-    opened-wrong (cipher args.rounds args.keys) args.nonce args.aad.now args.tag args.text.now t.tag-with.result
+    opened_wrong (cipher args.rounds args.keys) args.nonce args.aad.now args.tag args.text.now t.tag-with.result
     t.tag-with.ensures (sym c.before.same-16.ensures ∙ c.if1.false)
 
 pub open-with-spec : {M : Type 1} → statement M

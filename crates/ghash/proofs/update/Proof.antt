@@ -6,7 +6,7 @@ use lib.Bits.{bit_xor}
 use lib.ListN.{length}
 use borrow.Author.Rules.{rules}
 use Rattle.octets.specs.Blocks.{block_count, over_blocks}
-use Rattle.octets.proofs.BlockLaws.{AtBlock, block_turn, over-turn}
+use Rattle.octets.proofs.BlockLaws.{AtBlock, block_turn, over_turn}
 use Rattle.ghash_field.specs.Field.{mul}
 use Rattle.ghash_field.specs.Elements.{element_of, Products}
 use Rattle.ghash.specs.Ghash.{step, ghash_from}
@@ -32,7 +32,7 @@ loop-again c =
     let s = a.s.now in
     let m = c.at_most in (
       (λ h p.
-          over-turn (step h) (element_of a.y.y) s k.loop.at m.result (element_of k.loop.z) _ k.loop.invariant.1 t.loop-test.true m.ensures
+          over_turn (step h) (element_of a.y.y) s k.loop.at m.result (element_of k.loop.z) _ k.loop.invariant.1 t.loop-test.true m.ensures
           (k.loop.invariant.0 h p)
           (c.before.step.ensures h p ∙ ap (λ (x : ℕ). mul (bit_xor (element_of k.loop.z) x) h) c.before.before.block.ensures)),
       block_turn k.loop.at (length s) m.result k.loop.invariant.1 t.loop-test.true m.ensures,

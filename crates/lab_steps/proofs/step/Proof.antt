@@ -2,7 +2,7 @@
 -- Assumes nothing.
 use mathlib.Core.Path.{refl}
 use Rattle.lab_state.specs.Reading.{state_of}
-use Rattle.lab_rules.proofs.StepLaws.{step-0, step-1, step-2, step-3, three}
+use Rattle.lab_rules.proofs.StepLaws.{step_0, step-1, step_2, step-3, three}
 use borrow.Author.Rules.{rules}
 use Rattle.lab_steps.proofs.step.Statement.{statement}
 use Rattle.lab_steps.proofs.step.Tie as tie
@@ -10,7 +10,7 @@ use Rattle.lab_steps.proofs.step.Tie as tie
 returns : tie.Need-returns
 returns c = λ h.
     let a = c.before.before.before.before.args in
-    step-0 a.kind a.from-server a.payload.now _ (state_of a.from) _ _ c.before.before.if1.true c.negotiate.ensures refl
+    step_0 a.kind a.from-server a.payload.now _ (state_of a.from) _ _ c.before.before.if1.true c.negotiate.ensures refl
 
 returns-2 : tie.Need-returns-2
 returns-2 c = λ h.
@@ -22,7 +22,7 @@ returns-3 : tie.Need-returns-3
 returns-3 c = λ h.
     let past = c.before.before.before.before in
     let a = past.before.before.before.before.args in
-    step-2 a.kind a.from-server a.payload.now _ (state_of a.from) _ _ past.before.before.if1.false past.before.if2.false past.if3.true
+    step_2 a.kind a.from-server a.payload.now _ (state_of a.from) _ _ past.before.before.if1.false past.before.if2.false past.if3.true
     c.before.before.opened.ensures refl
 
 returns-4 : tie.Need-returns-4

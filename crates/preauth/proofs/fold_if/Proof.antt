@@ -1,6 +1,6 @@
 -- Right because each return is one way out of the definition, and only the last touches the chain: its 64 bytes are the new value.
 -- Assumes nothing.
-use Rattle.preauth.proofs.FoldLaws.{refused-40, refused-23, left_out, folded_in, fold-tests, fold-leaves, fold-puts, limits}
+use Rattle.preauth.proofs.FoldLaws.{refused_40, refused_23, left_out, folded_in, fold_tests_lem, fold_leaves, fold_puts, limits}
 use Rattle.protocol.specs.Calls.{folding, only_chain}
 use Rattle.octets.proofs.Paste.{paste_all}
 use borrow.Author.Tests.{not-true, not-false}
@@ -15,7 +15,7 @@ returns c =
     let a = c.before.before.before.args in
     let v = a.chain.now in
     let m = a.message.now in
-    λ kind agrees. refused-40 (folding kind m) (only_chain v) kind m (fold-tests kind v m) c.if1.true
+    λ kind agrees. refused_40 (folding kind m) (only_chain v) kind m (fold_tests_lem kind v m) c.if1.true
 
 returns-2 : tie.Need-returns-2
 returns-2 c =
@@ -23,7 +23,7 @@ returns-2 c =
     let unfit = sym c.before.admits.ensures ∙ not-true _ c.if2.true in
     let v = a.chain.now in
     let m = a.message.now in
-    λ kind agrees. refused-23 (folding kind m) (only_chain v) kind m (fold-tests kind v m) c.before.before.if1.false unfit
+    λ kind agrees. refused_23 (folding kind m) (only_chain v) kind m (fold_tests_lem kind v m) c.before.before.if1.false unfit
 
 returns-3 : tie.Need-returns-3
 returns-3 c =
@@ -33,7 +33,7 @@ returns-3 c =
     let m = a.message.now in
     λ kind agrees.
     let b = sym (agrees fits) ∙ not-true _ c.if3.true in
-    left_out (folding kind m) (only_chain v) kind m (fold-tests kind v m) c.before.before.before.if1.false fits b (fold-leaves kind v m b)
+    left_out (folding kind m) (only_chain v) kind m (fold_tests_lem kind v m) c.before.before.before.if1.false fits b (fold_leaves kind v m b)
 
 next-value-requires : tie.Need-next-value-requires
 next-value-requires c κs =
@@ -55,7 +55,7 @@ returns-4 c =
     let m = a.message.now in
     λ kind agrees.
     let b = sym (agrees fits) ∙ not-false _ past.if3.false in
-    folded_in (folding kind m) (only_chain v) kind m (fold-tests kind v m) past.before.before.before.if1.false fits _ b (fold-puts kind v m _ b value)
+    folded_in (folding kind m) (only_chain v) kind m (fold_tests_lem kind v m) past.before.before.before.if1.false fits _ b (fold_puts kind v m _ b value)
 
 pub fold-if-spec : {M : Type 1} → statement M
 fold-if-spec =

@@ -5,7 +5,7 @@ use Rattle.connection.specs.Reading.{flag, connection_of}
 use Rattle.transform_header.specs.Reading.{header_from}
 use Rattle.session_record.specs.Reading.{session_of}
 use Rattle.session_record.proofs.KeyLaws.{lent-inside, lent_length, lent_is}
-use Rattle.session_calls.proofs.Opening.{open-refused, open_done}
+use Rattle.session_calls.proofs.Opening.{open_refused, open_done}
 use borrow.Author.Rules.{rules}
 use Rattle.session_calls.proofs.open_record.Statement.{statement}
 use Rattle.session_calls.proofs.open_record.Tie as tie
@@ -17,7 +17,7 @@ returns c =
     let line6 = line4.before in
     let read = line6.before in
     let a = read.before.before.before.args in
-    open-refused (connection_of a.c) (session_of a.s) a.message.now (header_from _) _ _ _ read.read-header.ensures
+    open_refused (connection_of a.c) (session_of a.s) a.message.now (header_from _) _ _ _ read.read-header.ensures
     line6.record-number.ensures line4.header-number.ensures line1.message-number.ensures c.if1.true
 
 array-share-prefix-key : tie.Need-array-share-prefix-key

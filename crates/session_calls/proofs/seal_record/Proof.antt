@@ -4,7 +4,7 @@ use mathlib.Core.Path.{sym, ◌∙◌}
 use Rattle.connection.specs.Reading.{flag, connection_of}
 use Rattle.session_record.specs.Reading.{session_of}
 use Rattle.session_record.proofs.KeyLaws.{lent-inside, lent_length, lent_is}
-use Rattle.session_calls.proofs.Sealing.{seal-refused, seal-done}
+use Rattle.session_calls.proofs.Sealing.{seal_refused, seal_done}
 use borrow.Author.Rules.{rules}
 use Rattle.session_calls.proofs.seal_record.Statement.{statement}
 use Rattle.session_calls.proofs.seal_record.Tie as tie
@@ -12,7 +12,7 @@ use Rattle.session_calls.proofs.seal_record.Tie as tie
 returns : tie.Need-returns
 returns c =
     let a = c.before.before.before.before.before.args in
-    seal-refused (connection_of a.c) (session_of a.s) a.id a.message.now _ _ c.before.before.before.record-number.ensures
+    seal_refused (connection_of a.c) (session_of a.s) a.id a.message.now _ _ c.before.before.before.record-number.ensures
     c.before.message-number.ensures c.if1.true
 
 array-share-prefix-key : tie.Need-array-share-prefix-key
@@ -43,7 +43,7 @@ returns-2 c =
     let bytes = counted.key-bytes.ensures in
     let key = picked.sealing-key in
     let size = key.type-inv.1.0.1 in
-    seal-done (connection_of a.c) (session_of a.s) a.id a.message.now _ _ line6.record-number.ensures
+    seal_done (connection_of a.c) (session_of a.s) a.id a.message.now _ _ line6.record-number.ensures
     line1.message-number.ensures passed.if1.false _ (lent_is wide _ bytes _ size _ key.ensures) (lent_length wide _ bytes _ size ∙ bytes) _ _ _
     sealed.seal-under.ensures
 

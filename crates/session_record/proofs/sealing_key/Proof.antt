@@ -4,7 +4,7 @@ use mathlib.Core.Path.{ap, ◌∙◌}
 use lib.Dec.{eqb}
 use lib.ListN.{take}
 use Rattle.session_record.specs.Reading.{key_bytes}
-use Rattle.session_record.proofs.KeyLaws.{sealing-by-role}
+use Rattle.session_record.proofs.KeyLaws.{sealing_by_role}
 use borrow.Author.Rules.{rules}
 use Rattle.session_record.proofs.sealing_key.Statement.{statement}
 use Rattle.session_record.proofs.sealing_key.Tie as tie
@@ -12,7 +12,7 @@ use Rattle.session_record.proofs.sealing_key.Tie as tie
 returns : tie.Need-returns
 returns c =
     let a = c.before.args in
-    ap (take (key_bytes a.s)) c.key-from.ensures ∙ sealing-by-role a.s (eqb a.role 0)
+    ap (take (key_bytes a.s)) c.key-from.ensures ∙ sealing_by_role a.s (eqb a.role 0)
 
 pub sealing-key-spec : {M : Type 1} → statement M
 sealing-key-spec = tie.close (tie.spec (λ c κs. search rules) returns)

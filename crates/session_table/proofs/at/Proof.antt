@@ -8,7 +8,7 @@ use mir.Syntax.{imm, ty_bool}
 use denote.Slice.{slice_ty}
 use Rattle.session_record.specs.declared.Session.{Session}
 use Rattle.session_record.specs.Reading.{free}
-use Rattle.session_table.proofs.Walk.{R, mach as mach-of, size, place-fits, get_past, word, ref, typed, looks-table, record-out, record-owned}
+use Rattle.session_table.proofs.Walk.{R, mach as mach-of, size, place-fits, get_past, word, ref, typed, looks_table, record_out, record_owned}
 use Rattle.session_table.proofs.Leaving.{Locals, leaves, holds}
 use Rattle.session_table.proofs.Operands.{local}
 use Rattle.session_record.proofs.Session.TheLaws as T'
@@ -64,7 +64,7 @@ module _ {M : Type 1} {𝓤 : Ura M} (𝓛 : Logic 𝓤) (mem : Memory → SProp
       suffices ! _ (ends_at 𝓛 at.ended stayed (at.clauses 𝓛 mem run) (((κ, tt), (q, tt), tt, x, vals), tt) v r (tt, (tt, tt)) (tt, (tt, tt))) $ says ! said $
       owned ! usize (Is usize) (uint_Makes 𝓛 w64) i _ (refl, gi) $ move ! (1 ∷ 2 ∷ 0 ∷ []) $
       nothing ! $ move ! (1 ∷ 0 ∷ []) $ join ! $ nothing ! $ move ! (3 ∷ 0 ∷ []) $ fjoin ! $ move ! (2 ∷ 0 ∷ []) $ fjoin ! $ move ! (1 ∷ 0 ∷ []) $
-      frame ! $ frame ! $ record-owned ! r _ g $ done !
+      frame ! $ frame ! $ record_owned ! r _ g $ done !
 
   abbrev to-vacant : (Makes 𝓛 mem run).Ghost
   to-vacant = ((tt, tt, tt, tt, tt), tt)
@@ -89,8 +89,8 @@ module _ {M : Type 1} {𝓤 : Ura M} (𝓛 : Logic 𝓤) (mem : Memory → SProp
         assigns ! (bin ! (load ! (from ! (fld ! refl (stop !))) (look_in ! 14 (sub ! 0 refl (whole !)))) (local ! 4 refl) tt) (from ! (stop !)) (init ! 2 refl (tt, tt)) $
         rewrite ! 2 (λ (p : ℕ). ‵ (fat full_share ty_ptr l₇ 0 (vptr b p))) (sym (place_is size o i)) refl $
         move ! (19 ∷ []) $ fsplit ! $ fsplit ! $ move ! (1 ∷ []) $ fsplit ! $ move ! (22 ∷ []) $ split ! $ move ! (3 ∷ 0 ∷ []) $
-        looks-table ! tt ys b o (λ q'.
-        record-out ! q' ys i b o l (λ g.
+        looks_table ! tt ys b o (λ q'.
+        record_out ! q' ys i b o l (λ g.
         let wt = typed 𝓛 elem mach g in
         -- [table[i]; what it owns; the others; what shuts; the fractured borrow; true; res; table's fact; i's; _8; …]
         assigns ! (of_opd ! (load ! (from ! (hop ! (look ! 11 refl) (stop !))) (look_raw ! 0 refl))) (from ! (stop !)) (init ! 9 refl wt) $

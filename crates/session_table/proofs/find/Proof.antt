@@ -50,7 +50,7 @@ use Rattle.session_record.specs.declared.Session.{Session}
 use Rattle.session_record.specs.Reading.{free, is_wanted}
 use Rattle.session_table.specs.Place.{first as first_of}
 use Rattle.session_table.proofs.PlaceLaws.{first-here, first-later, first-none}
-use Rattle.session_table.proofs.Walk.{R, mach, size, place-fits, is_true, is_false, word, ref, typed, looks-table, record-out, record-owned}
+use Rattle.session_table.proofs.Walk.{R, mach, size, place-fits, is_true, is_false, word, ref, typed, looks_table, record_out, record_owned}
 use Rattle.session_table.proofs.Leaving.{leaves, holds, empty}
 use Rattle.session_table.proofs.Operands.{local}
 use Rattle.session_record.proofs.Session.TheLaws as T'
@@ -122,7 +122,7 @@ module _ {M : Type 1} {𝓤 : Ura M} (𝓛 : Logic 𝓤) (mem : Memory → SProp
   to i = ((tt, tt, tt, (elem i, (used, (id, tt))), (mach (elem i) ∷ [], (vbool used ∷ [], (vint w64 id ∷ [], tt)))), tt)
 
   asked : (i : ℕ) → Is R (elem i) (mach (elem i) ∷ []) → ent 𝓤 (emp 𝓤) ((Asks 𝓛 mem run).pre (to i))
-  asked i g = qed 𝓛 [] ∵ nothing ! $ owned ! u64 (Is u64) (uint_Makes 𝓛 w64) id _ (refl, id-fits) $ fjoin ! $ owned ! Boolean (Is Boolean) (bool_Makes 𝓛) used _ refl $ fjoin ! $ record-owned ! (elem i) _ g $ fjoin ! $ nothing ! $ join ! $ frame ! $ done !
+  asked i g = qed 𝓛 [] ∵ nothing ! $ owned ! u64 (Is u64) (uint_Makes 𝓛 w64) id _ (refl, id-fits) $ fjoin ! $ owned ! Boolean (Is Boolean) (bool_Makes 𝓛) used _ refl $ fjoin ! $ record_owned ! (elem i) _ g $ fjoin ! $ nothing ! $ join ! $ frame ! $ done !
 
   module _ (𝓣 : Tables 𝓤 H) (known : Triple 𝓤 (𝓣.C #session-record·wanted) (Asks 𝓛 mem run)) (l₀ l₁ l₂ l₃ l₄ l₅ l₆ l₇ l₈ l₉ : ℕ) where
     abbrev C : Calls 𝓤 H
@@ -173,8 +173,8 @@ module _ {M : Type 1} {𝓤 : Ura M} (𝓛 : Logic 𝓤) (mem : Memory → SProp
             assigns ! (bin ! (load ! (from ! (fld ! refl (stop !))) (look_in ! 18 (sub ! 0 refl (whole !)))) (local ! 8 refl) tt) (from ! (stop !)) (init ! 4 refl (tt, tt)) $
             rewrite ! 4 (λ (p : ℕ). ‵ (fat full_share ty_ptr l₈ 0 (vptr b p))) (sym (place_is size o i.0)) refl $
             fsplit ! $ move ! (1 ∷ []) $ fsplit ! $ move ! (1 ∷ 3 ∷ []) $
-            looks-table ! tt ys b o (λ q'.
-            record-out ! q' ys i.0 b o l (λ g.
+            looks_table ! tt ys b o (λ q'.
+            record_out ! q' ys i.0 b o l (λ g.
             let wt = typed 𝓛 (elem i.0) (mach (elem i.0)) g in
             -- [table[i]; what it owns; the others; what shuts; the fractured borrow; res; table's fact; _9; …; _8; …; _7; …; _6; …; _5; …; _4; …; _3; …; _2; …; _1; …; room for _0; …]
             assigns ! (of_opd ! (load ! (from ! (hop ! (look ! 9 refl) (stop !))) (look_raw ! 0 refl))) (from ! (stop !)) (init ! 7 refl wt) $

@@ -10,7 +10,7 @@ use denote.Slice.{slice_ty}
 use Rattle.session_record.specs.declared.Session.{Session}
 use Rattle.session_record.specs.contracts.Session as T
 use Rattle.session_record.proofs.Session.TheLaws as T'
-use Rattle.session_table.proofs.Walk.{R, mach as mach-of, size, place-fits, set_past, word, ref, typed, record-out, record-owned}
+use Rattle.session_table.proofs.Walk.{R, mach as mach-of, size, place-fits, set_past, word, ref, typed, record_out, record_owned}
 use Rattle.session_table.proofs.Leaving.{Locals, leaves, holds}
 use Rattle.session_table.proofs.Operands.{local}
 use Rattle.session_table.specs.contracts.put_at.Key.{name as #session-table·put-at}
@@ -53,7 +53,7 @@ module _ {M : Type 1} {𝓤 : Ura M} (𝓛 : Logic 𝓤) (mem : Memory → SProp
       nothing ! $ move ! (3 ∷ 0 ∷ []) $ join ! $ frame ! $
       -- [obs; the borrow]: with the facts on the machine values it is what the parameters own
       fjoin ! $ pure_i ! (mut_slice_at R (x zs) (sl ∷ [])) (tt, (tt, tt)) (ap (λ (m : ℕ). slice_val (b, o) m ∷ []) (sym e), subst (Room R) (sym e) room) $ fjoin ! $
-      nothing ! $ record-owned ! s _ gs $ fjoin ! $ owned ! usize (Is usize) (uint_Makes 𝓛 w64) i _ (refl, gi) $ fjoin ! $
+      nothing ! $ record_owned ! s _ gs $ fjoin ! $ owned ! usize (Is usize) (uint_Makes 𝓛 w64) i _ (refl, gi) $ fjoin ! $
       move ! (1 ∷ 0 ∷ []) $ fjoin ! $ feq_i ! (List Val) (vunit ∷ []) (vunit ∷ []) refl $ move ! (1 ∷ 0 ∷ []) $ done !
 
   module _ (C : Calls 𝓤 H) (Λ : Loops 𝓤 H) where
@@ -76,10 +76,10 @@ module _ {M : Type 1} {𝓤 : Ura M} (𝓛 : Logic 𝓤) (mem : Memory → SProp
         assigns ! (bin ! (local ! 17 refl) (lit ! tt) (record { fits = pf })) (from ! (stop !)) (init ! 9 refl (tt, record { fits = pf })) $
         assigns ! (bin ! (load ! (from ! (fld ! refl (stop !))) (look_in ! 19 (sub ! 0 refl (whole !)))) (local ! 9 refl) tt) (from ! (stop !)) (init ! 7 refl (tt, tt)) $
         rewrite ! 7 (λ (p : ℕ). ‵ (fat full_share ty_ptr l₇ 0 (vptr b p))) (sym (place_is size o i)) refl $
-        record-out ! full_share ys i b o l (λ _.
+        record_out ! full_share ys i b o l (λ _.
         assigns_last ! (of_opd ! (local ! 17 refl)) (from ! (hop ! (look ! 9 refl) (stop !))) (store_raw ! 0 refl wt) $
         exec ! C Λ (locals l₀ l₁ l₂ l₃ l₄ l₅ l₆ l₇) code.Mir.t-4 (at_ret (locals l₀ l₁ l₂ l₃ l₄ l₅ l₆ l₇) Post) $
-        move ! (1 ∷ []) $ drop ! $ record-owned ! s _ gs $ move ! (1 ∷ 0 ∷ []) $ elem_put ! R full_share ys i s (mach ∷ []) b o l $
+        move ! (1 ∷ []) $ drop ! $ record_owned ! s _ gs $ move ! (1 ∷ 0 ∷ []) $ elem_put ! R full_share ys i s (mach ∷ []) b o l $
         closes_slice ! tt R ys (set ys i s) (length-set ys i s) b o $
         assigns ! (of_opd ! (unit_lit !)) (from ! (stop !)) (init ! 20 refl (tt, tt)) $
         returns ! (look ! 20 refl) $ leaves ! 6 (holds _ ∷ holds _ ∷ holds _ ∷ holds _ ∷ holds _ ∷ holds _ ∷ holds _ ∷ holds _ ∷ []) refl $

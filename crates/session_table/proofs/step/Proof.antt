@@ -9,12 +9,12 @@ use Rattle.session_record.specs.declared.Session.{Session}
 use Rattle.session_record.specs.Reading.{stepped}
 use Rattle.session_record.specs.contracts.Session as T
 use Rattle.session_record.proofs.Session.TheLaws as T'
-use Rattle.session_table.proofs.Walk.{R, mach, typed, record-owned}
+use Rattle.session_table.proofs.Walk.{R, mach, typed, record_owned}
 use Rattle.session_table.proofs.Leaving.{leaves, holds}
 use Rattle.session_table.proofs.Operands.{local, reborrows}
 use Rattle.session_table.specs.Place.{record_at, put_at}
-use Rattle.session_table.proofs.Said.{calls-said}
-use Rattle.session_table.proofs.Lending.{ref_at, lend, back, Gets, Puts, calls-get, calls-put}
+use Rattle.session_table.proofs.Said.{calls_said}
+use Rattle.session_table.proofs.Lending.{ref_at, lend, back, Gets, Puts, calls_get, calls_put}
 use Rattle.session_table.proofs.at.Symbol as at-def
 use Rattle.session_table.proofs.at.Symbol.{name as #session-table·at}
 use Rattle.session_table.proofs.at.Met as at-thm
@@ -40,8 +40,8 @@ module _ {M : Type 1} {𝓤 : Ura M} (𝓛 : Logic 𝓤) (mem : Memory → SProp
   abbrev to_step : Session → ℕ → Steps.Ghost
   to_step s far = ((tt, tt, tt, (s, (far, tt)), (mach s ∷ [], (vint w64 far ∷ [], tt))), tt)
 
-  asks-step : (s : Session) (far : ℕ) → Is R s (mach s ∷ []) → far < 2 ^ 64 → ent 𝓤 (emp 𝓤) (Steps.pre (to_step s far))
-  asks-step s far gs fits = qed 𝓛 [] ∵ nothing ! $ owned ! u64 (Is u64) (uint_Makes 𝓛 w64) far _ (refl, fits) $ fjoin ! $ record-owned ! s _ gs $ fjoin ! $ nothing ! $ join ! $ frame ! $ done !
+  asks_step : (s : Session) (far : ℕ) → Is R s (mach s ∷ []) → far < 2 ^ 64 → ent 𝓤 (emp 𝓤) (Steps.pre (to_step s far))
+  asks_step s far gs fits = qed 𝓛 [] ∵ nothing ! $ owned ! u64 (Is u64) (uint_Makes 𝓛 w64) far _ (refl, fits) $ fjoin ! $ record_owned ! s _ gs $ fjoin ! $ nothing ! $ join ! $ frame ! $ done !
 
 module _ {M : Type 1} {𝓤 : Ura M} (𝓛 : Logic 𝓤) (mem : Memory → SProp 𝓤) (run : Routine → Fun 𝓤) (κ : Lft) (q : Share) (b o : ℕ) (γ : GName) (ys : List Session) (i far : ℕ) (room : Room R (length ys)) (i-fits : i < 2 ^ 64) (far-fits : far < 2 ^ 64) where
   open 𝓛 use {H}
@@ -78,15 +78,15 @@ module _ {M : Type 1} {𝓤 : Ura M} (𝓛 : Logic 𝓤) (mem : Memory → SProp
         -- the table is lent as `&`: [ν's token; the `&`; what is lent out; _10; …]
         lend R (named 0) κ q γ b o ys ! tt (λ ν δ.
         reborrows ! refl refl (look_in ! 21 (sub ! 0 refl (whole !))) (init ! 11 refl (tt, tt)) (look ! 11 refl) (look_in ! 21 (sub ! 1 refl (whole !))) (init ! 9 refl (tt, (tt, (record { fits = room.0 }, tt)))) $
-        calls-get mem run (ν ∷ []) full_share b o δ ys ! fm kg i i-fits (and_then ! (local ! 9 refl) (and_then ! (local ! 19 refl) (no_more !))) (λ s e gs.
+        calls_get mem run (ν ∷ []) full_share b o δ ys ! fm kg i i-fits (and_then ! (local ! 9 refl) (and_then ! (local ! 19 refl) (no_more !))) (λ s e gs.
         land ! (from ! (stop !)) (init ! 15 refl (typed 𝓛 s (mach s) gs)) $
         -- it is back: [the table; its token; _10; …]
         back R (named 0) κ q γ b o ys ! tt ν δ room $
-        use0 𝓛 (raw ((Steps 𝓛 mem run).pre (to_step 𝓛 mem run s far))) (asks-step 𝓛 mem run s far gs far-fits) $
-        calls-said step-record.ended (step-record.clauses 𝓛 mem run) ! fm kr (to_step 𝓛 mem run s far) (λ t ws. t ≡ stepped far s) (λ t ws. id⊢ 𝓤 _) mach (LL.tells T.the_type T'.the_laws) (and_then ! (local ! 15 refl) (and_then ! (local ! 17 refl) (no_more !))) (λ t ws et gt. drop ! $ drop ! $
+        use0 𝓛 (raw ((Steps 𝓛 mem run).pre (to_step 𝓛 mem run s far))) (asks_step 𝓛 mem run s far gs far-fits) $
+        calls_said step-record.ended (step-record.clauses 𝓛 mem run) ! fm kr (to_step 𝓛 mem run s far) (λ t ws. t ≡ stepped far s) (λ t ws. id⊢ 𝓤 _) mach (LL.tells T.the_type T'.the_laws) (and_then ! (local ! 15 refl) (and_then ! (local ! 17 refl) (no_more !))) (λ t ws et gt. drop ! $ drop ! $
         land ! (from ! (stop !)) (init ! 12 refl (typed 𝓛 t (mach t) gt)) $
         reborrows ! refl refl (look_in ! 20 (sub ! 0 refl (whole !))) (init ! 4 refl (tt, tt)) (look ! 4 refl) (look_in ! 20 (sub ! 1 refl (whole !))) (init ! 2 refl (tt, (tt, (record { fits = room.0 }, tt)))) $
-        move ! (1 ∷ 0 ∷ []) $ calls-put mem run κ q b o γ ys ! fm kp i t i-fits gt (and_then ! (local ! 1 refl) (and_then ! (local ! 17 refl) (and_then ! (local ! 11 refl) (no_more !)))) (λ zs ez lz.
+        move ! (1 ∷ 0 ∷ []) $ calls_put mem run κ q b o γ ys ! fm kp i t i-fits gt (and_then ! (local ! 1 refl) (and_then ! (local ! 17 refl) (and_then ! (local ! 11 refl) (no_more !)))) (λ zs ez lz.
         land ! (from ! (stop !)) (init ! 6 refl (tt, tt)) $
         assigns ! (of_opd ! (unit_lit !)) (from ! (stop !)) (init ! 22 refl (tt, tt)) $
         returns ! (look ! 22 refl) $ leaves ! 2 (holds _ ∷ holds _ ∷ holds _ ∷ holds _ ∷ holds _ ∷ holds _ ∷ holds _ ∷ holds _ ∷ holds _ ∷ holds _ ∷ holds _ ∷ []) refl $

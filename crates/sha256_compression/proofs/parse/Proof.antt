@@ -2,7 +2,7 @@
 -- Assumes nothing.
 use Rattle.std.proofs.Common.{◌-◌, arith}
 use Rattle.sha_2.specs.Sha256.{sha256}
-use Rattle.sha_2.proofs.Loops.{Parsing, parsing-start, parsing-turn, parsing-end}
+use Rattle.sha_2.proofs.Loops.{Parsing, parsing_start, parsing_turn, parsing_end}
 use Rattle.sha256_compression.proofs.parse.Statement.{statement}
 use Rattle.sha256_compression.proofs.parse.Tie as tie
 
@@ -13,13 +13,13 @@ abbrev decreases-loop : tie.decreases-loop
 decreases-loop w₀ block i₀ w i = 16 - i
 
 loop-holds : tie.Need-loop-init invariant-loop decreases-loop
-loop-holds c = parsing-start sha256 c.before.args.block.now c.before.args.w.now c.before.requires.0
+loop-holds c = parsing_start sha256 c.before.args.block.now c.before.args.w.now c.before.requires.0
 
 loop-again : tie.Need-loop-preserved invariant-loop decreases-loop
-loop-again c = parsing-turn sha256 c.before.before.loop.invariant c.before.loop-test.true c.u32-at.ensures
+loop-again c = parsing_turn sha256 c.before.before.loop.invariant c.before.loop-test.true c.u32-at.ensures
 
 returns : tie.Need-returns invariant-loop decreases-loop
-returns c = parsing-end sha256 c.before.loop.invariant c.loop-test.false
+returns c = parsing_end sha256 c.before.loop.invariant c.loop-test.false
 
 pub parse-spec : {M : Type 1} → statement M
 parse-spec =

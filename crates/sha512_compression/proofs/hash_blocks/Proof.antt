@@ -2,7 +2,7 @@
 -- Assumes nothing.
 use Rattle.std.proofs.Common.{◌-◌, arith, rules}
 use Rattle.sha_2.specs.Sha512.{sha512}
-use Rattle.sha_2.proofs.Loops.{Taking, taking-start, taking-turn, taking-end}
+use Rattle.sha_2.proofs.Loops.{Taking, taking_start, taking_turn, taking_end}
 use Rattle.sha512_compression.proofs.hash_blocks.Statement.{statement}
 use Rattle.sha512_compression.proofs.hash_blocks.Tie as tie
 
@@ -13,13 +13,13 @@ abbrev decreases-loop : tie.decreases-loop
 decreases-loop m h₀ n i₀ h i = n - i
 
 loop-holds : tie.Need-loop-init invariant-loop decreases-loop
-loop-holds c = taking-start sha512 c.before.args.hs c.before.args.m.now
+loop-holds c = taking_start sha512 c.before.args.hs c.before.args.m.now
 
 loop-again : tie.Need-loop-preserved invariant-loop decreases-loop
-loop-again c = taking-turn sha512 c.before.before.before.loop.invariant c.before.before.loop-test.true c.compress.ensures
+loop-again c = taking_turn sha512 c.before.before.before.loop.invariant c.before.before.loop-test.true c.compress.ensures
 
 returns : tie.Need-returns invariant-loop decreases-loop
-returns c = taking-end sha512 c.before.loop.invariant c.loop-test.false
+returns c = taking_end sha512 c.before.loop.invariant c.loop-test.false
 
 pub hash-blocks-spec : {M : Type 1} → statement M
 hash-blocks-spec =

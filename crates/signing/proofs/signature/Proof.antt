@@ -12,7 +12,7 @@ use Rattle.aes.specs.BlockCipher.{block_cipher, expanded_key}
 use Rattle.cmac.specs.Cmac as rfc4493
 use Rattle.cmac.proofs.Beginning.{new_holds}
 use Rattle.cmac.proofs.AnyState.{takes_in, ends_with}
-use Rattle.protocol.specs.Signing.{with_signature, signatureUnder}
+use Rattle.protocol.specs.Signing.{with_signature, signature_under}
 use Rattle.protocol.proofs.SuiteLaws.{cmac_is}
 use Rattle.signing.proofs.SigningLaws.{taken_in}
 use borrow.Author.Rules.{rules}
@@ -30,7 +30,7 @@ copy-requires c κs =
     simp length-take (omega (arith, st.requires.1))
 
 returns : tie.Need-returns
-unfolding signatureUnder
+unfolding signature_under
 returns c =
     let one = c.before.before.before.before.before in
     let new = one.before.before.before in

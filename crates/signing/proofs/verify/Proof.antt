@@ -3,7 +3,7 @@
 use mathlib.Core.Path.{sym, ◌∙◌}
 use borrow.Author.Tests.{not-true, not-false}
 use native.Mathlib.Omega.{arith}
-use Rattle.signing.proofs.SigningLaws.{passed, refused-first, not-signed, compared}
+use Rattle.signing.proofs.SigningLaws.{passed, refused-first, not_signed_lem, compared}
 use borrow.Author.Rules.{rules}
 use Rattle.signing.proofs.verify.Statement.{statement}
 use Rattle.signing.proofs.verify.Tie as tie
@@ -22,7 +22,7 @@ returns-2 : tie.Need-returns-2
 returns-2 c =
     let first = c.before.before in
     let a = first.before.before.before.before.args in
-    not-signed a.key.now a.message.now _ first.before.refusal.ensures first.if1.false
+    not_signed_lem a.key.now a.message.now _ first.before.refusal.ensures first.if1.false
     (sym c.before.is_Signed.ensures ∙ not-true _ c.if2.true)
 
 bytes-16-requires : tie.Need-bytes-16-requires

@@ -1,7 +1,7 @@
 -- Right because folding answers alike for both kinds.
-use Rattle.protocol.specs.Preauth.{negotiateMessage, setupRequest}
+use Rattle.protocol.specs.Preauth.{negotiate_message, setup_request}
 use Rattle.protocol.specs.Calls.{folding, only_chain}
-use Rattle.smb3seal.proofs.Laws.{returned-alone}
+use Rattle.smb3seal.proofs.Laws.{returned_alone}
 use borrow.Author.Rules.{rules}
 use Rattle.smb3seal.proofs.smb3seal_fold.Statement.{statement}
 use Rattle.smb3seal.proofs.smb3seal_fold.Tie as tie
@@ -12,8 +12,8 @@ returns c =
     let a = c5.before.before.args in
     let made = c.before.before.before.fold.ensures in
     let n = c.number.ensures in (
-      returned-alone (folding negotiateMessage a.message.now) (only_chain a.chain.now) _ _ made.0 _ n,
-      returned-alone (folding setupRequest a.message.now) (only_chain a.chain.now) _ _ made.1 _ n,
+      returned_alone (folding negotiate_message a.message.now) (only_chain a.chain.now) _ _ made.0 _ n,
+      returned_alone (folding setup_request a.message.now) (only_chain a.chain.now) _ _ made.1 _ n,
     )
 
 pub smb3seal-fold-spec : {M : Type 1} → statement M

@@ -6,7 +6,7 @@ use lib.Dec.{ltb}
 use lib.ListN.{length-map}
 use Rattle.connection.specs.Reading.{flag}
 use Rattle.session_record.specs.Adds.{adding_of, AddsWith}
-use Rattle.session_table.proofs.TableCalls.{added-says}
+use Rattle.session_table.proofs.TableCalls.{added_says}
 use Rattle.table_by_value.proofs.add_in.Statement.{statement}
 use Rattle.table_by_value.proofs.add_in.Tie as tie
 
@@ -24,7 +24,7 @@ returns c =
     let asked = adding_of a.a a.chain.now a.material.now in
     let adds : ℕ → Type 0 = λ n. AddsWith asked (flag there.at.result.used) (ltb free.find2.result n) old.at2.result added.result.number
     added.result.session in
-    added-says t _ a.a a.material.now a.chain.now _ _ _ _ _ found.find.ensures there.at.ensures free.find2.ensures old.at2.ensures
+    added_says t _ a.a a.material.now a.chain.now _ _ _ _ _ found.find.ensures there.at.ensures free.find2.ensures old.at2.ensures
     (subst adds (sym size) added.ensures) c.put-at.ensures
 
 pub add_in_spec : {M : Type 1} → statement M

@@ -1,7 +1,7 @@
 -- Right because the record of the id that the message names opens it.
 use borrow.Author.Rules.{rules}
 use Rattle.connection.specs.Reading.{connection_of}
-use Rattle.session_table.proofs.TableCalls.{opened-says}
+use Rattle.session_table.proofs.TableCalls.{opened_says}
 use Rattle.table_by_value.proofs.open_in.Statement.{statement}
 use Rattle.table_by_value.proofs.open_in.Tie as tie
 
@@ -12,7 +12,7 @@ returns c =
     let found = got.before in
     let named = found.before in
     let a = named.before.before.before.args in
-    opened-says (connection_of a.c) a.message.now a.from.records _ _ _ _ _ named.session-id.ensures found.find.ensures got.at.ensures
+    opened_says (connection_of a.c) a.message.now a.from.records _ _ _ _ _ named.session-id.ensures found.find.ensures got.at.ensures
     opened.open-record.ensures
 
 pub open-in-spec : {M : Type 1} → statement M

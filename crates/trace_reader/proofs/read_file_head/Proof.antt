@@ -1,7 +1,7 @@
 -- Right because each return stands under the tests of `readFileHead` (FormatLaws).
 -- Assumes nothing.
 use native.Mathlib.Omega.{arith}
-use Rattle.trace_format.proofs.FormatLaws.{file-short, file-unknown, file-good}
+use Rattle.trace_format.proofs.FormatLaws.{file-short, file_unknown, file-good}
 use borrow.Author.Rules.{rules}
 use Rattle.trace_reader.proofs.read_file_head.Statement.{statement}
 use Rattle.trace_reader.proofs.read_file_head.Tie as tie
@@ -12,7 +12,7 @@ returns c = file-short c.before.before.args.b.now c.if1.true
 returns-2 : tie.Need-returns-2
 returns-2 c =
     let f = c.before.before.before.before.before.before.args.b.now in
-    file-unknown f (omega arith) _ c.before.before.before.u32-at.ensures _ c.before.before.layout_of.ensures.longest c.if2.true
+    file_unknown f (omega arith) _ c.before.before.before.u32-at.ensures _ c.before.before.layout_of.ensures.longest c.if2.true
 
 returns-3 : tie.Need-returns-3
 returns-3 c =

@@ -3,7 +3,7 @@
 use Rattle.trace_format.specs.Format.{edition_of}
 use mathlib.Core.Path.{◌∙◌}
 use native.Mathlib.Omega.{arith}
-use Rattle.trace_format.proofs.FormatLaws.{head-short, head-bad, head-good}
+use Rattle.trace_format.proofs.FormatLaws.{head-short, head_bad, head-good}
 use borrow.Author.Rules.{rules}
 use Rattle.trace_reader.proofs.read_head.Statement.{statement}
 use Rattle.trace_reader.proofs.read_head.Tie as tie
@@ -16,7 +16,7 @@ returns-2 c =
     let a = c.before.before.before.before.before.before.before.args in
     let fixed = c.before.before.before.before.layout_of.ensures in
     let is = c.before.before.wide.ensures ∙ c.before.before.before.u32-at.ensures in
-    head-bad (edition_of a.edition) a.b.now (omega arith) _ is _ fixed.unit _ (c.before.admits.ensures _ fixed) c.if2.true
+    head_bad (edition_of a.edition) a.b.now (omega arith) _ is _ fixed.unit _ (c.before.admits.ensures _ fixed) c.if2.true
 
 returns-3 : tie.Need-returns-3
 returns-3 c =

@@ -2,7 +2,7 @@
 -- Assumes nothing.
 use mathlib.Core.Path.{sym, ap, ◌∙◌}
 use Rattle.trace_reader.specs.Answers.{file_reading_of}
-use Rattle.trace_format.proofs.FormatLaws.{in-bad, in-good}
+use Rattle.trace_format.proofs.FormatLaws.{in_bad, in-good}
 use borrow.Author.Rules.{rules}
 use Rattle.trace_reader.proofs.read_in.Statement.{statement}
 use Rattle.trace_reader.proofs.read_in.Tie as tie
@@ -10,7 +10,7 @@ use Rattle.trace_reader.proofs.read_in.Tie as tie
 returns : tie.Need-returns
 returns c =
     let a = c.before.before.before.before.args in
-    in-bad a.file.now a.at (ap file_reading_of (sym c.enum_told.given.1) ∙ c.before.before.read-file-head.ensures)
+    in_bad a.file.now a.at (ap file_reading_of (sym c.enum_told.given.1) ∙ c.before.before.read-file-head.ensures)
 
 returns-2 : tie.Need-returns-2
 returns-2 c =

@@ -6,7 +6,7 @@ use mathlib.Core.Path.{sym, ap, ◌∙◌}
 use Rattle.trace_reader.specs.Answers.{head_reading_of}
 use Rattle.trace_format.specs.Format.{edition_of, read_head}
 use Rattle.octets.proofs.Paste.{part_all}
-use Rattle.trace_format.proofs.FormatLaws.{at-end, at-bad, at_cut, at-found, headed}
+use Rattle.trace_format.proofs.FormatLaws.{at-end, at_bad, at_cut, at-found, headed}
 use borrow.Author.Rules.{rules}
 use Rattle.trace_reader.proofs.read_record.Statement.{statement}
 use Rattle.trace_reader.proofs.read_record.Tie as tie
@@ -22,7 +22,7 @@ returns-2 c =
     let e = edition_of a.edition in
     let f = a.file.now in
     let t = ap head_reading_of (sym c.enum_told.given.1) ∙ c.before.before.read-head.ensures ∙ ap (read_head e) (part_all f a.at) in
-    at-bad e f a.at c.before.before.before.before.if1.false t
+    at_bad e f a.at c.before.before.before.before.if1.false t
 
 sub-if2-2 : tie.Need-overflow-sub-if2-2
 sub-if2-2 c =

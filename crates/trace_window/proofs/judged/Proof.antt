@@ -3,7 +3,7 @@
 use Rattle.std.proofs.Common.{length, sym, ap, ◌∙◌, arith, rules}
 use Rattle.trace_reader.specs.Answers.{head_reading_of}
 use Rattle.trace_format.specs.Format.{edition_of, read_head}
-use Rattle.trace_window.proofs.WindowLaws.{bad-turn, bad-read, good-long, good_turn, good-read}
+use Rattle.trace_window.proofs.WindowLaws.{bad_turn, bad_read, good-long, good_turn, good-read}
 use Rattle.trace_window.proofs.judged.Statement.{statement}
 use Rattle.trace_window.proofs.judged.Tie as tie
 
@@ -11,13 +11,13 @@ returns : tie.Need-returns
 returns c =
     let a = c.before.before.before.before.before.args in
     let t = ap head_reading_of (sym c.before.enum_told.given.1) ∙ c.before.before.before.read-head.ensures in
-    bad-turn (read_head (edition_of a.edition) a.bytes.now) (length a.bytes.now) a.ended t c.if1.true
+    bad_turn (read_head (edition_of a.edition) a.bytes.now) (length a.bytes.now) a.ended t c.if1.true
 
 returns-2 : tie.Need-returns-2
 returns-2 c =
     let a = c.before.before.before.before.before.args in
     let t = ap head_reading_of (sym c.before.enum_told.given.1) ∙ c.before.before.before.read-head.ensures in
-    bad-read (read_head (edition_of a.edition) a.bytes.now) (length a.bytes.now) a.ended t c.if1.false
+    bad_read (read_head (edition_of a.edition) a.bytes.now) (length a.bytes.now) a.ended t c.if1.false
 
 returns-3 : tie.Need-returns-3
 returns-3 c =

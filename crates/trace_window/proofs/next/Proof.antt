@@ -3,14 +3,14 @@
 use Rattle.std.proofs.Common.{length, sym, ap, ◌∙◌, rules, le-ltb}
 use Rattle.trace_format.specs.Format.{Bytes, edition_of, read_head}
 use Rattle.trace_window.specs.Window.{by_head, next_of}
-use Rattle.trace_window.proofs.WindowLaws.{next-cut, next_more, next-passed}
+use Rattle.trace_window.proofs.WindowLaws.{next_cut, next_more, next-passed}
 use Rattle.trace_window.proofs.next.Statement.{statement}
 use Rattle.trace_window.proofs.next.Tie as tie
 
 returns : tie.Need-returns
 returns c =
     let a = c.before.before.before.before.args in
-    next-cut (edition_of a.edition) a.c a.bytes.now c.before.if1.true c.if2.true
+    next_cut (edition_of a.edition) a.c a.bytes.now c.before.if1.true c.if2.true
 
 returns-2 : tie.Need-returns-2
 returns-2 c =

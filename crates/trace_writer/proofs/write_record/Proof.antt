@@ -5,7 +5,7 @@ use Rattle.trace_format.specs.Records.{written_edition}
 use lib.ListN.{length}
 use Prim.Native.Nat.{◌+◌, ◌≤◌}
 use native.Mathlib.Omega.{arith}
-use Rattle.trace_writer.proofs.WriteLaws.{record-not-read, record-not-held, record_written, record-admitted, record-inside}
+use Rattle.trace_writer.proofs.WriteLaws.{record_not-read, record_not-held, record_written, record_admitted, record_inside}
 use borrow.Author.Rules.{rules}
 use Rattle.trace_writer.proofs.write_record.Statement.{statement}
 use Rattle.trace_writer.proofs.write_record.Tie as tie
@@ -15,7 +15,7 @@ returns c =
     let a = c.before.before.before.before.before.args in
     let e = edition_of written_edition in
     let said = c.before.admits.ensures e c.before.before.layout_of.ensures in
-    record-not-read e a.kind a.from-server a.payload.now a.room.now a.at _ said c.if1.true
+    record_not-read e a.kind a.from-server a.payload.now a.room.now a.at _ said c.if1.true
 
 returns-2 : tie.Need-returns-2
 returns-2 c =
@@ -23,14 +23,14 @@ returns-2 c =
     let e = edition_of written_edition in
     let said = c.before.before.before.admits.ensures e c.before.before.before.before.layout_of.ensures in
     let inside = c.before.holds.ensures in
-    record-not-held e a.kind a.from-server a.payload.now a.room.now a.at _ said _ inside c.if2.true
+    record_not-held e a.kind a.from-server a.payload.now a.room.now a.at _ said _ inside c.if2.true
 
 head-bytes-requires : tie.Need-head-bytes-requires
 head-bytes-requires c κs =
     let a = c.before.before.before.before.before.before.before.args in
     let e = edition_of written_edition in
     let said = c.before.before.before.admits.ensures e c.before.before.before.before.layout_of.ensures in
-    record-admitted e a.kind a.from-server a.payload.now a.room.now a.at _ said c.before.before.if1.false
+    record_admitted e a.kind a.from-server a.payload.now a.room.now a.at _ said c.before.before.if1.false
 
 put-record-requires : tie.Need-put-record-requires
 put-record-requires c κs =
@@ -38,7 +38,7 @@ put-record-requires c κs =
     let a = past.before.before.before.before.before.before.before.args in
     let e = edition_of written_edition in
     let said = past.before.before.before.admits.ensures e past.before.before.before.before.layout_of.ensures in
-    record-inside e a.kind a.from-server a.payload.now a.room.now a.at _ said _ past.before.holds.ensures past.if2.false
+    record_inside e a.kind a.from-server a.payload.now a.room.now a.at _ said _ past.before.holds.ensures past.if2.false
 
 add-t10 : tie.Need-overflow-add-t10
 add-t10 c =

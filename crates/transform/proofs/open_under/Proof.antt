@@ -5,7 +5,7 @@ use Rattle.connection.specs.Reading.{connection_of}
 use Rattle.transform_header.proofs.HeaderIn.{header-there}
 use Rattle.protocol.proofs.First.{key_length}
 use Rattle.transform.proofs.Inner.{sized}
-use Rattle.transform.proofs.Opening.{lines-chained, lines-refuse, lines-passed, message-opens}
+use Rattle.transform.proofs.Opening.{lines-chained, lines_refuse, lines-passed, message-opens}
 use Rattle.transform.proofs.open_under.Statement.{statement}
 use Rattle.transform.proofs.open_under.Tie as tie
 
@@ -17,7 +17,7 @@ returns c =
     let said = lines-chained (connection_of a.c) a.key.now a.id a.message.now _ _ _ _ _ c5.before.before.read-header.ensures
     c5.refuse.ensures
     c.before.before.before.before.header-number.ensures c.before.before.message-number.ensures c.before.key-number.ensures in
-    lines-refuse (connection_of a.c) a.key.now a.id a.message.now _ said c.if1.true
+    lines_refuse (connection_of a.c) a.key.now a.id a.message.now _ said c.if1.true
 
 open-message-requires : tie.Need-open-message-requires
 open-message-requires c κs =

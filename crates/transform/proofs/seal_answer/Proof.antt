@@ -6,7 +6,7 @@ use Rattle.protocol.specs.Compound.{walk}
 use Rattle.protocol.proofs.First.{first-passed}
 use Rattle.connection.specs.Reading.{connection_of}
 use Rattle.transform.proofs.Inner.{sized}
-use Rattle.transform.proofs.Sealing.{lines-chained, lines-refuse, walk-refuses, counter-refuses, counter-passes}
+use Rattle.transform.proofs.Sealing.{lines-chained, lines_refuse, walk-refuses, counter-refuses, counter-passes}
 use Rattle.transform.proofs.seal_answer.Statement.{statement}
 use Rattle.transform.proofs.seal_answer.Tie as tie
 
@@ -15,7 +15,7 @@ returns c =
     let a = c.before.before.before.before.before.before.args in
     let said = lines-chained (connection_of a.c) a.key.now a.id a.counter a.message.now _ _ c.before.before.message-number.ensures
     c.before.key-number.ensures in
-    lines-refuse (connection_of a.c) a.key.now a.id a.counter a.message.now _ said c.if1.true
+    lines_refuse (connection_of a.c) a.key.now a.id a.counter a.message.now _ said c.if1.true
 
 walk-inner-requires : tie.Need-walk-inner-requires
 walk-inner-requires c κs =

@@ -3,7 +3,7 @@ use mathlib.Core.Path.{sym, ◌∙◌}
 use native.Mathlib.Omega.{arith}
 use borrow.Author.Rules.{rules}
 use Rattle.protocol.specs.Calls.{sealing_under, message_and_counter}
-use Rattle.protocol.proofs.CallLaws.{makes-refused}
+use Rattle.protocol.proofs.CallLaws.{makes_refused}
 use Rattle.connection.specs.Reading.{connection_of}
 use Rattle.protocol.proofs.First.{key_length}
 use Rattle.transform.proofs.Inner.{sized}
@@ -15,7 +15,7 @@ returns : tie.Need-returns
 returns c =
     let c5 = c.before.before.before.before.before in
     let a = c5.before.args in
-    makes-refused (sealing_under (connection_of a.c) a.key.now a.id) (message_and_counter a.message.now a.counter) _
+    makes_refused (sealing_under (connection_of a.c) a.key.now a.id) (message_and_counter a.message.now a.counter) _
     c.before.before.seal-answer.ensures
     (sym c.before.refused.ensures ∙ c.if1.true)
 

@@ -1,6 +1,6 @@
 -- Right because each return stands under the tests before it in the list, which did not apply; the difference that stands for the sum p + d + 64 cannot wrap.
 -- Assumes nothing.
-use Rattle.compound.proofs.RuleLaws.{next-15, next-inside, next-16, next-12, next-14, next-none}
+use Rattle.compound.proofs.RuleLaws.{next_15, next-inside, next_16, next_12, next_14, next-none}
 use borrow.Author.Tests.{not-true, not-false}
 use native.Mathlib.Omega.{arith}
 use mathlib.Core.Bool.{Bool, not, ◌&&◌}
@@ -11,17 +11,17 @@ use Rattle.compound.proofs.rules.next_number.Statement.{statement}
 use Rattle.compound.proofs.rules.next_number.Tie as tie
 
 returns : tie.Need-returns
-returns c = let s = c.before.before in next-15 s.args.m.now (envelope_of s.args.e) s.args.p s.args.d s.requires c.if1.true
+returns c = let s = c.before.before in next_15 s.args.m.now (envelope_of s.args.e) s.args.p s.args.d s.requires c.if1.true
 
 returns-2 : tie.Need-returns-2
 returns-2 c =
     let s = c.before.before.before in
-    next-16 s.args.m.now (envelope_of s.args.e) s.args.p s.args.d s.requires c.before.if1.false c.if2.true
+    next_16 s.args.m.now (envelope_of s.args.e) s.args.p s.args.d s.requires c.before.if1.false c.if2.true
 
 returns-3 : tie.Need-returns-3
 returns-3 c =
     let s = c.before.before.before.before.before in
-    next-12 s.args.m.now (envelope_of s.args.e) s.args.p s.args.d s.requires c.before.before.before.if1.false c.before.before.if2.false
+    next_12 s.args.m.now (envelope_of s.args.e) s.args.p s.args.d s.requires c.before.before.before.if1.false c.before.before.if2.false
     (sym c.before.begins.ensures ∙ not-true _ c.if3.true)
 
 returns-4 : tie.Need-returns-4
@@ -30,7 +30,7 @@ returns-4 c =
     let s = past.before.before.before.before.before in
     let header = sym past.before.begins.ensures ∙ not-false _ past.if3.false in
     let said = sym (ap₂ (λ (r b : Bool). not r && not b) c.before.before.is-related.ensures c.before.belongs.ensures) in
-    next-14 s.args.m.now (envelope_of s.args.e) s.args.p s.args.d s.requires past.before.before.before.if1.false
+    next_14 s.args.m.now (envelope_of s.args.e) s.args.p s.args.d s.requires past.before.before.before.if1.false
     past.before.before.if2.false header (said ∙ c.if4.true)
 
 returns-5 : tie.Need-returns-5

@@ -6,27 +6,27 @@ use native.Mathlib.Omega.{arith}
 use borrow.Author.Tests.{not-true, not-false}
 use Rattle.octets.proofs.Paste.{paste_all}
 use Rattle.connection.specs.Reading.{flag}
-use Rattle.fold_pieces.proofs.FinishLaws.{closed-40, closed-23, closed-out, closed_in}
+use Rattle.fold_pieces.proofs.FinishLaws.{closed_40, closed_23, closed_out, closed_in}
 use borrow.Author.Rules.{rules}
 use Rattle.fold_pieces.proofs.FoldState.close.Statement.{statement}
 use Rattle.fold_pieces.proofs.FoldState.close.Tie as tie
 
 returns : tie.Need-returns
-returns c = let a = c.before.before.args in closed-40 a.self a.allowed a.chain.now c.if1.true
+returns c = let a = c.before.before.args in closed_40 a.self a.allowed a.chain.now c.if1.true
 
 returns-2 : tie.Need-returns-2
 returns-2 c =
     let past = c.before.before.before in
     let a = past.before.before.args in
     let e = ap (λ (b : Bool). flag a.self.underway && b) (sym c.before.admits.ensures) ∙ not-true _ c.if2.true in
-    closed-23 a.self a.allowed a.chain.now past.if1.false e
+    closed_23 a.self a.allowed a.chain.now past.if1.false e
 
 returns-3 : tie.Need-returns-3
 returns-3 c =
     let past = c.before.before.before.before in
     let a = past.before.before.args in
     let e = ap (λ (b : Bool). flag a.self.underway && b) (sym c.before.before.admits.ensures) ∙ not-false _ c.before.if2.false in
-    closed-out a.self a.allowed a.chain.now past.if1.false e (not-true _ c.if3.true)
+    closed_out a.self a.allowed a.chain.now past.if1.false e (not-true _ c.if3.true)
 
 slice-aggregate-copy : tie.Need-slice-aggregate-copy
 slice-aggregate-copy c = search rules

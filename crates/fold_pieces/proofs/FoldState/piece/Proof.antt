@@ -8,7 +8,7 @@ use lib.ListN.{length}
 use Rattle.octets.proofs.BoolLaws.{and_true}
 use Rattle.protocol.specs.Connection.{longest_message}
 use Rattle.connection.specs.Reading.{flag}
-use Rattle.fold_pieces.proofs.StateLaws.{piece-refused, piece-taken}
+use Rattle.fold_pieces.proofs.StateLaws.{piece_refused, piece_taken}
 use borrow.Author.Rules.{rules}
 use Rattle.fold_pieces.proofs.FoldState.piece.Statement.{statement}
 use Rattle.fold_pieces.proofs.FoldState.piece.Tie as tie
@@ -18,7 +18,7 @@ returns c =
     let past = c.before in
     let a = past.before.before.before.before.args in
     let e = ap (λ (b : Bool). flag a.self.underway && b) (sym past.before.fits2.ensures) ∙ not-true _ past.if1.true in
-    piece-refused a.self a.piece.now e c.step.ensures
+    piece_refused a.self a.piece.now e c.step.ensures
 
 add-t15 : tie.Need-overflow-add-t15
 add-t15 c =
@@ -33,7 +33,7 @@ returns-2 c =
     let past = c.before.before.before.before.before.before in
     let a = past.before.before.before.before.args in
     let e = ap (λ (b : Bool). flag a.self.underway && b) (sym past.before.fits2.ensures) ∙ not-false _ past.if1.false in
-    piece-taken a.self a.piece.now e c.before.before.update.ensures c.before.head-with.ensures c.step2.ensures
+    piece_taken a.self a.piece.now e c.before.before.update.ensures c.before.head-with.ensures c.step2.ensures
 
 pub piece-spec : {M : Type 1} → statement M
 piece-spec =

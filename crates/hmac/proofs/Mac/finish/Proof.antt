@@ -6,7 +6,7 @@ use Prim.Native.Nat.{ℕ}
 use Rattle.octets.specs.Xor.{xor}
 use Rattle.sha_2.specs.Sha2.{hash}
 use Rattle.sha_2.specs.Sha256.{sha256}
-use Rattle.hmac.specs.Hmac.{hmac, keyBlock, opad}
+use Rattle.hmac.specs.Hmac.{hmac, key_block, opad}
 use borrow.Author.Rules.{rules}
 use Rattle.hmac.proofs.Mac.finish.Statement.{statement}
 use Rattle.hmac.proofs.Mac.finish.Tie as tie
@@ -16,7 +16,7 @@ unfolding hmac
 returns c =
     λ key m s.
     c.finish2.ensures _ (c.before.update.ensures _ s.outer)
-    ∙ ap (λ (l : List ℕ). hash sha256 (xor (keyBlock sha256 key) (opad sha256) ++ l)) (c.before.before.before.finish.ensures _ s.inner)
+    ∙ ap (λ (l : List ℕ). hash sha256 (xor (key_block sha256 key) (opad sha256) ++ l)) (c.before.before.before.finish.ensures _ s.inner)
 
 pub finish_spec : {M : Type 1} → statement M
 finish_spec =

@@ -6,7 +6,7 @@ use mathlib.Core.List.{List, append_assoc}
 use Rattle.octets.specs.Xor.{xor}
 use Rattle.sha_2.specs.Sha256.{sha256}
 use Rattle.sha256.specs.Code as code
-use Rattle.hmac.specs.Hmac.{keyBlock, ipad}
+use Rattle.hmac.specs.Hmac.{key_block, ipad}
 use borrow.Author.Rules.{rules}
 use Rattle.hmac.proofs.Mac.update.Statement.{statement}
 use Rattle.hmac.proofs.Mac.update.Tie as tie
@@ -14,7 +14,7 @@ use Rattle.hmac.proofs.Mac.update.Tie as tie
 returns : tie.Need-returns
 returns c =
     λ key m s.
-    let e = append_assoc (xor (keyBlock sha256 key) (ipad sha256)) m c.before.before.before.before.args.piece.now in
+    let e = append_assoc (xor (key_block sha256 key) (ipad sha256)) m c.before.before.before.before.args.piece.now in
     record { inner = subst (λ (l : List ℕ). code.Holds c.update.result l) e (c.update.ensures _ s.inner); outer = s.outer }
 
 pub update-spec : {M : Type 1} → statement M

@@ -5,17 +5,17 @@ use mathlib.Core.Path.{sym, ap, ◌∙◌}
 use mathlib.Core.List.{List}
 use borrow.Author.Tests.{le-leb, lt-leb}
 use Rattle.octets.specs.Blocks.{zero_padded}
-use Rattle.hmac.specs.Hmac.{keyBlock}
+use Rattle.hmac.specs.Hmac.{key_block}
 use borrow.Author.Rules.{rules}
 use Rattle.hmac.proofs.key.key_block.Statement.{statement}
 use Rattle.hmac.proofs.key.key_block.Tie as tie
 
 returns : tie.Need-returns
-unfolding keyBlock
+unfolding key_block
 returns c = c.zero-padded.ensures ∙ sym (simp (le-leb _ _ c.before.if1.true))
 
 returns-2 : tie.Need-returns-2
-unfolding keyBlock
+unfolding key_block
 returns-2 c =
     c.zero-padded2.ensures
     ∙ ap (λ (l : List ℕ). zero_padded 64 l) c.before.before.hash.ensures

@@ -6,7 +6,7 @@ use native.Mathlib.Omega.{arith}
 use lib.ListN.{length, replicate, length-set}
 use lib.Seq.{paste}
 use Rattle.octets.specs.Xor.{xor}
-use Rattle.hmac.proofs.Pads.{xored-turn, xored}
+use Rattle.hmac.proofs.Pads.{xored_turn, xored}
 use borrow.Author.Rules.{rules}
 use Rattle.hmac.proofs.key.xor_repeated.Statement.{statement}
 use Rattle.hmac.proofs.key.xor_repeated.Tie as tie
@@ -24,7 +24,7 @@ loop-again : tie.Need-loop-preserved invariant-loop decreases-loop
 loop-again c =
     let l = c.before.loop in
     let a = c.before.before.args in
-    (omega arith, l.invariant.1, simp length-set (omega arith), xored-turn a.t1 64 a.x l.invariant.1 l.r l.i l.invariant.3 (omega arith))
+    (omega arith, l.invariant.1, simp length-set (omega arith), xored_turn a.t1 64 a.x l.invariant.1 l.r l.i l.invariant.3 (omega arith))
 
 returns : tie.Need-returns invariant-loop decreases-loop
 returns c =

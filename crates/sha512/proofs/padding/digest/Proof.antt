@@ -2,7 +2,7 @@
 -- Assumes nothing.
 use Rattle.std.proofs.Common.{◌-◌, replicate, refl, arith, rules}
 use Rattle.sha_2.specs.Sha512.{sha512}
-use Rattle.sha_2.proofs.Loops.{Digesting, digesting-start, digesting-turn, digesting-end}
+use Rattle.sha_2.proofs.Loops.{Digesting, digesting_start, digesting_turn, digesting_end}
 use Rattle.sha512.proofs.padding.digest.Statement.{statement}
 use Rattle.sha512.proofs.padding.digest.Tie as tie
 
@@ -13,7 +13,7 @@ abbrev decreases-loop : tie.decreases-loop
 decreases-loop hs out₀ i₀ out i = 8 - i
 
 loop-holds : tie.Need-loop-init invariant-loop decreases-loop
-loop-holds c = digesting-start sha512 c.args.t1 (replicate 64 0) refl
+loop-holds c = digesting_start sha512 c.args.t1 (replicate 64 0) refl
 
 copy-requires : tie.Need-copy-requires invariant-loop decreases-loop
 copy-requires c κs = omega (arith, c.before.before.u64-bytes.type-inv.1.0.1)
@@ -23,10 +23,10 @@ loop-again c =
     let b = c.before.before.before.before.u64-bytes in
     let f = c.before.copy in
     let k = c.before.before.before.before.before in
-    digesting-turn sha512 k.before.loop.invariant (omega arith) k.loop-test.true b.ensures f.ensures f.auto.0
+    digesting_turn sha512 k.before.loop.invariant (omega arith) k.loop-test.true b.ensures f.ensures f.auto.0
 
 returns : tie.Need-returns invariant-loop decreases-loop
-returns c = digesting-end sha512 c.before.loop.invariant c.loop-test.false
+returns c = digesting_end sha512 c.before.loop.invariant c.loop-test.false
 
 pub digest-spec : {M : Type 1} → statement M
 digest-spec =

@@ -1,12 +1,12 @@
 -- Right because it is the definition, sum by sum.
 -- Assumes nothing.
 use Rattle.std.proofs.Common.{◌∙◌, rules}
-use Rattle.sha_2.specs.Sha2.{scheduleWord}
+use Rattle.sha_2.specs.Sha2.{schedule_word}
 use Rattle.sha512_compression.proofs.rounds.schedule_word.Statement.{statement}
 use Rattle.sha512_compression.proofs.rounds.schedule_word.Tie as tie
 
 returns : tie.Need-returns
-unfolding scheduleWord
+unfolding schedule_word
 returns c =
     let second = c.before in
     let sigma0 = second.before in

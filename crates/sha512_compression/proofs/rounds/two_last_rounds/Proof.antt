@@ -1,7 +1,7 @@
 -- Right because one round and one more are two.
 -- Assumes nothing.
 use Rattle.sha_2.specs.Sha512.{sha512}
-use Rattle.sha_2.proofs.Rounds.{two-more}
+use Rattle.sha_2.proofs.Rounds.{two_more}
 use Rattle.std.proofs.Common.{rules}
 use Rattle.sha512_compression.proofs.rounds.two_last_rounds.Statement.{statement}
 use Rattle.sha512_compression.proofs.rounds.two_last_rounds.Tie as tie
@@ -9,7 +9,7 @@ use Rattle.sha512_compression.proofs.rounds.two_last_rounds.Tie as tie
 returns : tie.Need-returns
 returns c =
     let s = c.before.before.before.before.before.before in
-    two-more sha512 s.args.w.now s.args.j s.requires.2 c.before.before.before.round.ensures c.round2.ensures
+    two_more sha512 s.args.w.now s.args.j s.requires.2 c.before.before.before.round.ensures c.round2.ensures
 
 pub two-last-rounds-spec : {M : Type 1} → statement M
 two-last-rounds-spec =

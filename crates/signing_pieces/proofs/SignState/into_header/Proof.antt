@@ -5,7 +5,7 @@ use Prim.Native.Nat.{◌-◌}
 use native.Mathlib.Omega.{arith}
 use lib.Seq.{length-take-le}
 use Rattle.octets.proofs.Paste.{part_all}
-use Rattle.signing_pieces.proofs.CodeLaws.{into-short, into-whole}
+use Rattle.signing_pieces.proofs.CodeLaws.{into_short, into_whole}
 use borrow.Author.Rules.{rules}
 use Rattle.signing_pieces.proofs.SignState.into_header.Statement.{statement}
 use Rattle.signing_pieces.proofs.SignState.into_header.Tie as tie
@@ -14,7 +14,7 @@ returns : tie.Need-returns
 returns c =
     let st = c.before.before.before.before.before.before.before in
     let a = st.args in
-    into-short a.self a.piece.now c.before.before.before.if1.true c.before.filled.ensures
+    into_short a.self a.piece.now c.before.before.before.if1.true c.before.filled.ensures
 
 slice-aggregate-filled : tie.Need-slice-aggregate-filled
 slice-aggregate-filled c =
@@ -43,7 +43,7 @@ returns-2 c =
     let piece = a.piece.now in
     let cut = 64 - a.self.length in
     let one = c.before.before.before.before in
-    into-whole a.self piece tested.if1.false whole.filled2.ensures keys.ensures one.before.before.before.before.covered.ensures
+    into_whole a.self piece tested.if1.false whole.filled2.ensures keys.ensures one.before.before.before.before.covered.ensures
     (part_all piece cut) one.before.before.before.new.ensures one.update.ensures c.before.update2.ensures
 
 pub into-header-spec : {M : Type 1} → statement M

@@ -1,6 +1,6 @@
 -- Right because each way takes the piece in where it belongs, or leaves the state as it is.
 -- Assumes nothing.
-use Rattle.signing_pieces.proofs.CodeLaws.{refuses, inside, taken_in, taken-behind}
+use Rattle.signing_pieces.proofs.CodeLaws.{refuses, inside, taken_in, taken_behind}
 use borrow.Author.Rules.{rules}
 use Rattle.signing_pieces.proofs.SignState.piece.Statement.{statement}
 use Rattle.signing_pieces.proofs.SignState.piece.Tie as tie
@@ -31,7 +31,7 @@ returns-3 : tie.Need-returns-3
 returns-3 c =
     let past = c.before.before.before.before in
     let a = past.before.before.before.before.args in
-    taken-behind a.self a.piece.now _ past.before.fits2.ensures past.if1.false c.before.before.if2.false
+    taken_behind a.self a.piece.now _ past.before.fits2.ensures past.if1.false c.before.before.if2.false
     c.before.behind-header.ensures c.step3.ensures
 
 pub piece-spec : {M : Type 1} → statement M

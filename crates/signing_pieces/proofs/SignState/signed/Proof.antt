@@ -4,7 +4,7 @@ use mathlib.Core.Path.{◌≡◌, sym, ◌∙◌}
 use native.Mathlib.Nat.{le_of_eq, zero-add}
 use lib.ListN.{length}
 use Rattle.signing_pieces.proofs.Limit.{place-fits}
-use Rattle.signing_pieces.proofs.CodeLaws.{number_is, place-stays, place-filled}
+use Rattle.signing_pieces.proofs.CodeLaws.{number_is, place_stays, place_filled}
 use borrow.Author.Rules.{rules}
 use Rattle.signing_pieces.proofs.SignState.signed.Statement.{statement}
 use Rattle.signing_pieces.proofs.SignState.signed.Tie as tie
@@ -15,7 +15,7 @@ returns c =
     let a = st.args in
     let joined = c.before.before.joined_number.ensures in
     let says = number_is a.self a.signature.now c.before.refuse.ensures joined in
-    (says, place-stays a.self a.signature.now says c.if1.true)
+    (says, place_stays a.self a.signature.now says c.if1.true)
 
 copy-requires : tie.Need-copy-requires
 copy-requires c κs =
@@ -34,7 +34,7 @@ returns-2 c =
     let says = number_is a.self a.signature.now first joined in
     let fits = place-fits _ _ _ first z in
     let copied = c.before.before.copy.ensures in
-    (sym z ∙ says, place-filled a.self a.signature.now says z fits stored.type-inv.1.0.1 stored.ensures copied)
+    (sym z ∙ says, place_filled a.self a.signature.now says z fits stored.type-inv.1.0.1 stored.ensures copied)
 
 pub signed-spec : {M : Type 1} → statement M
 signed-spec =

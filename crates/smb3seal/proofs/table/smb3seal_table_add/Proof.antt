@@ -18,17 +18,17 @@ use Rattle.protocol.specs.SessionTable as protocol
 use Rattle.session_table.specs.Reading.{table_of}
 use Rattle.protocol.specs.Calls.{adding, only_table}
 use Rattle.protocol.specs.Contract.{Returns}
-use Rattle.session_table.proofs.TableCalls.{added-says}
+use Rattle.session_table.proofs.TableCalls.{added_says}
 use Rattle.session_record.specs.contracts.Changed as Ch
 use Rattle.session_record.proofs.Changed.TheLaws as Ch'
 use Rattle.session_record.specs.contracts.Adding as Ad
 use Rattle.session_record.proofs.Adding.TheLaws as Ad'
-use Rattle.session_table.proofs.Walk.{R, mach, typed, record-owned}
-use Rattle.session_table.proofs.Values.{ConnectionT, mach_c, connection-typed, connection-owned, mach_t, changed-typed}
+use Rattle.session_table.proofs.Walk.{R, mach, typed, record_owned}
+use Rattle.session_table.proofs.Values.{ConnectionT, mach_c, connection_typed, connection_owned, mach_t, changed_typed}
 use Rattle.session_table.proofs.Leaving.{leaves, holds}
 use Rattle.session_table.proofs.Operands.{local, reborrows}
-use Rattle.session_table.proofs.Said.{calls-said}
-use Rattle.session_table.proofs.Lending.{ref_at, lend, back, Finds, Gets, Puts, calls-find, calls-get, calls-put}
+use Rattle.session_table.proofs.Said.{calls_said}
+use Rattle.session_table.proofs.Lending.{ref_at, lend, back, Finds, Gets, Puts, calls_find, calls_get, calls_put}
 use Rattle.session_table.proofs.find.Symbol as find-def
 use Rattle.session_table.proofs.find.Symbol.{name as #session-table·find}
 use Rattle.session_table.proofs.find.Met as find-thm
@@ -85,7 +85,7 @@ module _ {M : Type 1} {𝓤 : Ura M} (𝓛 : Logic 𝓤) (mem : Memory → SProp
     asks-make : Is ConnectionT c (mach_c c ∷ []) → id < 2 ^ 64 → guest < 2 ^ 32 → anonymous < 2 ^ 32 → ent 𝓤 (emp 𝓤) (Makes.pre to_make)
     asks-make gc id-fits guest-fits anonymous-fits =
         qed 𝓛 [] ∵ nothing ! $ owned ! u32 (Is u32) (uint_Makes 𝓛 w32) anonymous _ (refl, anonymous-fits) $ fjoin ! $ owned ! u32 (Is u32) (uint_Makes 𝓛 w32) guest _ (refl, guest-fits) $ fjoin ! $
-        owned ! u64 (Is u64) (uint_Makes 𝓛 w64) id _ (refl, id-fits) $ fjoin ! $ connection-owned ! c _ gc $ fjoin ! $ nothing ! $ join ! $ frame ! $ done !
+        owned ! u64 (Is u64) (uint_Makes 𝓛 w64) id _ (refl, id-fits) $ fjoin ! $ connection_owned ! c _ gc $ fjoin ! $ nothing ! $ join ! $ frame ! $ done !
 
   abbrev Adds : Contract 𝓤
   Adds = triple_of 𝓛 add-record.signature (add-record.spec 𝓛 mem run)
@@ -97,7 +97,7 @@ module _ {M : Type 1} {𝓤 : Ura M} (𝓛 : Logic 𝓤) (mem : Memory → SProp
     asks-add : Is Ad.the_row x (mach-x x ∷ []) → Is R there (mach there ∷ []) → Is R old (mach old ∷ []) → ent 𝓤 (sep 𝓤 (sep 𝓤 (sem 𝓛 ((ShrSlice (named 1) μ₁ u8).own_val (ref_at b₁ o₁ γ₁ ms) (slice_val (b₁, o₁) (length ms) ∷ []))) (sem 𝓛 ((ShrSlice (named 2) μ₂ u8).own_val (ref_at b₂ o₂ γ₂ cs) (slice_val (b₂, o₂) (length cs) ∷ [])))) (sep 𝓤 (A.lft μ₁ p₁) (A.lft μ₂ p₂))) (Adds.pre to-add)
     asks-add gx gt go =
         qed 𝓛 ((‵ ((ShrSlice (named 1) μ₁ u8).own_val (ref_at b₁ o₁ γ₁ ms) (slice_val (b₁, o₁) (length ms) ∷ [])) ⊛ ‵ ((ShrSlice (named 2) μ₂ u8).own_val (ref_at b₂ o₂ γ₂ cs) (slice_val (b₂, o₂) (length cs) ∷ []))) ∷ (‵ (flft μ₁ p₁) ⊛ ‵ (flft μ₂ p₂)) ∷ []) ∵ split ! $ move ! (2 ∷ []) $ split ! $ nothing ! $ move ! (2 ∷ 0 ∷ []) $ join ! $ move ! (1 ∷ 0 ∷ []) $ join ! $
-        nothing ! $ move ! (3 ∷ 0 ∷ []) $ fjoin ! $ move ! (2 ∷ 0 ∷ []) $ fjoin ! $ owned ! Boolean (Is Boolean) (bool_Makes 𝓛) room _ refl $ fjoin ! $ record-owned ! old _ go $ fjoin ! $ record-owned ! there _ gt $ fjoin ! $
+        nothing ! $ move ! (3 ∷ 0 ∷ []) $ fjoin ! $ move ! (2 ∷ 0 ∷ []) $ fjoin ! $ owned ! Boolean (Is Boolean) (bool_Makes 𝓛) room _ refl $ fjoin ! $ record_owned ! old _ go $ fjoin ! $ record_owned ! there _ gt $ fjoin ! $
         owned ! Ad.the_row (Is Ad.the_row) (LL.makes Ad.the_type Ad'.the_plain 𝓛) x _ gx $ fjoin ! $ move ! (1 ∷ 0 ∷ []) $ join ! $ frame ! $ done !
 
 module _ {M : Type 1} {𝓤 : Ura M} (𝓛 : Logic 𝓤) (mem : Memory → SProp 𝓤) (run : Routine → Fun 𝓤) (κ μ₁ μ₂ : Lft) (q p₁ p₂ : Share) (b o : ℕ) (γ : GName) (ys : List Session) (c : Connection) (id guest anonymous : ℕ) (b₁ o₁ : ℕ) (γ₁ : GName) (ms : List ℕ) (b₂ o₂ : ℕ) (γ₂ : GName) (cs : List ℕ)
@@ -136,7 +136,7 @@ module _ {M : Type 1} {𝓤 : Ura M} (𝓛 : Logic 𝓤) (mem : Memory → SProp
       nothing ! $ move ! (3 ∷ 0 ∷ []) $ join ! $ move ! (2 ∷ 0 ∷ []) $ join ! $ move ! (1 ∷ 0 ∷ []) $ join ! $ frame ! $
       -- [the table's last list; the two slices]
       nothing ! $ move ! (3 ∷ 0 ∷ []) $ fjoin ! $ move ! (2 ∷ 0 ∷ []) $ fjoin ! $ owned ! u32 (Is u32) (uint_Makes 𝓛 w32) anonymous _ (refl, anonymous-fits) $ fjoin ! $ owned ! u32 (Is u32) (uint_Makes 𝓛 w32) guest _ (refl, guest-fits) $ fjoin ! $
-      owned ! u64 (Is u64) (uint_Makes 𝓛 w64) id _ (refl, id-fits) $ fjoin ! $ connection-owned ! c _ gc $ fjoin ! $ move ! (1 ∷ 0 ∷ []) $ fjoin ! $ frame ! $
+      owned ! u64 (Is u64) (uint_Makes 𝓛 w64) id _ (refl, id-fits) $ fjoin ! $ connection_owned ! c _ gc $ fjoin ! $ move ! (1 ∷ 0 ∷ []) $ fjoin ! $ frame ! $
       owned ! u32 (Is u32) (uint_Makes 𝓛 w32) r _ is $ done !
 
   module _ (C : Calls 𝓤 H) (Λ : Loops 𝓤 H) (fm : FmC 𝓤 H 𝓛.laws C) (km : Triple 𝓤 (C #session-record·adding-for) (Makes 𝓛 mem run)) (kf : Triple 𝓤 (C #session-table·find) (Finds 𝓛 mem run)) (kg : Triple 𝓤 (C #session-table·at) (Gets 𝓛 mem run)) (ka : Triple 𝓤 (C #session-calls·add-record) (Adds 𝓛 mem run)) (kp : Triple 𝓤 (C #session-table·put-at) (Puts 𝓛 mem run)) where
@@ -144,26 +144,26 @@ module _ {M : Type 1} {𝓤 : Ura M} (𝓛 : Logic 𝓤) (mem : Memory → SProp
     walk =
         qed 𝓛 ((‵ (flft κ q) ⊛ (‵ (flft μ₁ p₁) ⊛ (‵ (flft μ₂ p₂) ⊛ ‵ ftrue))) ∷ ‵ (owns (MutSlice (named 0) κ R ∷ ConnectionT ∷ u64 ∷ u32 ∷ u32 ∷ ShrSlice (named 1) μ₁ u8 ∷ ShrSlice (named 2) μ₂ u8 ∷ []) a vals) ∷ []) ∵ enter ! C Λ code.function (sl ∷ mach_c c ∷ vint w64 id ∷ vint w32 guest ∷ vint w32 anonymous ∷ ml ∷ cl ∷ []) _ $
         alloc1 ! (λ l₀. alloc1 ! (λ l₁. alloc1 ! (λ l₂. alloc1 ! (λ l₃. alloc1 ! (λ l₄. alloc1 ! (λ l₅. alloc1 ! (λ l₆. alloc1 ! (λ l₇. alloc1 ! (λ l₈. alloc1 ! (λ l₉. alloc1 ! (λ l₁₀. alloc1 ! (λ l₁₁. alloc1 ! (λ l₁₂. alloc1 ! (λ l₁₃. alloc1 ! (λ l₁₄. alloc1 ! (λ l₁₅. alloc1 ! (λ l₁₆. alloc1 ! (λ l₁₇. alloc1 ! (λ l₁₈. alloc1 ! (λ l₁₉. alloc1 ! (λ l₂₀. alloc1 ! (λ l₂₁. alloc1 ! (λ l₂₂. alloc1 ! (λ l₂₃. alloc1 ! (λ l₂₄. alloc1 ! (λ l₂₅. alloc1 ! (λ l₂₆. alloc0 ! $ params1 ! $
-        pass1 ! (init ! 50 refl (tt, (tt, (record { fits = room.0 }, tt)))) $ pass1 ! (init ! 48 refl (connection-typed 𝓛 c gc)) $ pass1 ! (init ! 46 refl (tt, record { fits = id-fits })) $ pass1 ! (init ! 44 refl (tt, record { fits = guest-fits })) $ pass1 ! (init ! 42 refl (tt, record { fits = anonymous-fits })) $ pass1 ! (init ! 40 refl (tt, (tt, (record { fits = room₁.0 }, tt)))) $ pass1 ! (init ! 38 refl (tt, (tt, (record { fits = room₂.0 }, tt)))) $ pass0 ! $
+        pass1 ! (init ! 50 refl (tt, (tt, (record { fits = room.0 }, tt)))) $ pass1 ! (init ! 48 refl (connection_typed 𝓛 c gc)) $ pass1 ! (init ! 46 refl (tt, record { fits = id-fits })) $ pass1 ! (init ! 44 refl (tt, record { fits = guest-fits })) $ pass1 ! (init ! 42 refl (tt, record { fits = anonymous-fits })) $ pass1 ! (init ! 40 refl (tt, (tt, (record { fits = room₁.0 }, tt)))) $ pass1 ! (init ! 38 refl (tt, (tt, (record { fits = room₂.0 }, tt)))) $ pass0 ! $
         -- [_26; …; _0; …; the tokens; what the parameters own]  to  [the table; its token; the tokens of chain and material; chain; material; _26; …]
         move ! (55 ∷ []) $ fsplit ! $ move ! (1 ∷ []) $ fsplit ! $ drop ! $ fsplit ! $ drop ! $ fsplit ! $ drop ! $ fsplit ! $ drop ! $ fsplit ! $ move ! (1 ∷ []) $ fsplit ! $ move ! (1 ∷ []) $ drop ! $
         move ! (57 ∷ []) $ split ! $ move ! (1 ∷ []) $ split ! $ move ! (1 ∷ []) $ split ! $ move ! (1 ∷ []) $ drop ! $ move ! (5 ∷ 2 ∷ []) $
         use0 𝓛 (raw ((Makes 𝓛 mem run).pre (to_make 𝓛 mem run c id guest anonymous))) (asks-make 𝓛 mem run c id guest anonymous gc id-fits guest-fits anonymous-fits) $
-        calls-said adding-for.ended (adding-for.clauses 𝓛 mem run) ! fm km (to_make 𝓛 mem run c id guest anonymous) (λ x ws. x ≡ adding_for c id guest anonymous) (λ x ws. id⊢ 𝓤 _) mach-x (LL.tells Ad.the_type Ad'.the_laws) (and_then ! (local ! 55 refl) (and_then ! (local ! 53 refl) (and_then ! (local ! 51 refl) (and_then ! (local ! 49 refl) (no_more !))))) (λ x ws₀ ex gx. drop ! $ drop ! $
+        calls_said adding-for.ended (adding-for.clauses 𝓛 mem run) ! fm km (to_make 𝓛 mem run c id guest anonymous) (λ x ws. x ≡ adding_for c id guest anonymous) (λ x ws. id⊢ 𝓤 _) mach-x (LL.tells Ad.the_type Ad'.the_laws) (and_then ! (local ! 55 refl) (and_then ! (local ! 53 refl) (and_then ! (local ! 51 refl) (and_then ! (local ! 49 refl) (no_more !))))) (λ x ws₀ ex gx. drop ! $ drop ! $
         land ! (from ! (stop !)) (init ! 42 refl ((LL.lawful Ad.the_type Ad'.the_laws 𝓛).typed x _ gx).0) $
         -- the table is lent as `&`: [ν's token; the `&`; what is lent out; …; _26; …]
         lend R (named 0) κ q γ b o ys ! tt (λ ν δ.
         reborrows ! refl refl (look_in ! 57 (sub ! 0 refl (whole !))) (init ! 29 refl (tt, tt)) (look ! 29 refl) (look_in ! 57 (sub ! 1 refl (whole !))) (init ! 27 refl (tt, (tt, (record { fits = room.0 }, tt)))) $
-        calls-find mem run (ν ∷ []) full_share b o δ ys ! fm kf true id id-fits (and_then ! (local ! 27 refl) (and_then ! (true_lit !) (and_then ! (local ! 53 refl) (no_more !)))) (λ i e gi.
+        calls_find mem run (ν ∷ []) full_share b o δ ys ! fm kf true id id-fits (and_then ! (local ! 27 refl) (and_then ! (true_lit !) (and_then ! (local ! 53 refl) (no_more !)))) (λ i e gi.
         land ! (from ! (stop !)) (init ! 41 refl (tt, record { fits = gi })) $
         reborrows ! refl refl (look_in ! 57 (sub ! 0 refl (whole !))) (init ! 25 refl (tt, tt)) (look ! 25 refl) (look_in ! 57 (sub ! 1 refl (whole !))) (init ! 23 refl (tt, (tt, (record { fits = room.0 }, tt)))) $
-        calls-get mem run (ν ∷ []) full_share b o δ ys ! fm kg i gi (and_then ! (local ! 23 refl) (and_then ! (local ! 41 refl) (no_more !))) (λ there e' gt.
+        calls_get mem run (ν ∷ []) full_share b o δ ys ! fm kg i gi (and_then ! (local ! 23 refl) (and_then ! (local ! 41 refl) (no_more !))) (λ there e' gt.
         land ! (from ! (stop !)) (init ! 39 refl (typed 𝓛 there (mach there) gt)) $
         reborrows ! refl refl (look_in ! 57 (sub ! 0 refl (whole !))) (init ! 21 refl (tt, tt)) (look ! 21 refl) (look_in ! 57 (sub ! 1 refl (whole !))) (init ! 19 refl (tt, (tt, (record { fits = room.0 }, tt)))) $
-        calls-find mem run (ν ∷ []) full_share b o δ ys ! fm kf false 0 (lit< tt) (and_then ! (local ! 19 refl) (and_then ! (false_lit !) (and_then ! (lit ! tt) (no_more !)))) (λ f ef gf.
+        calls_find mem run (ν ∷ []) full_share b o δ ys ! fm kf false 0 (lit< tt) (and_then ! (local ! 19 refl) (and_then ! (false_lit !) (and_then ! (lit ! tt) (no_more !)))) (λ f ef gf.
         land ! (from ! (stop !)) (init ! 37 refl (tt, record { fits = gf })) $
         reborrows ! refl refl (look_in ! 57 (sub ! 0 refl (whole !))) (init ! 17 refl (tt, tt)) (look ! 17 refl) (look_in ! 57 (sub ! 1 refl (whole !))) (init ! 15 refl (tt, (tt, (record { fits = room.0 }, tt)))) $
-        calls-get mem run (ν ∷ []) full_share b o δ ys ! fm kg f gf (and_then ! (local ! 15 refl) (and_then ! (local ! 37 refl) (no_more !))) (λ old eo go.
+        calls_get mem run (ν ∷ []) full_share b o δ ys ! fm kg f gf (and_then ! (local ! 15 refl) (and_then ! (local ! 37 refl) (no_more !))) (λ old eo go.
         land ! (from ! (stop !)) (init ! 35 refl (typed 𝓛 old (mach old) go)) $
         -- it is back: [the table; its token; the tokens of chain and material; chain; material; _26; …]
         back R (named 0) κ q γ b o ys ! tt ν δ room $
@@ -172,17 +172,17 @@ module _ {M : Type 1} {𝓤 : Ura M} (𝓛 : Logic 𝓤) (mem : Memory → SProp
         -- `add_record` has a copy of each slice: from [the table; its token; the tokens of chain and material; chain; material; _26; …]
         move ! (5 ∷ []) $ use1 𝓛 (‵ ((ShrSlice (named 1) μ₁ u8).own_val (ref_at b₁ o₁ γ₁ ms) (slice_val (b₁, o₁) (length ms) ∷ [])) ⊛ ‵ ((ShrSlice (named 1) μ₁ u8).own_val (ref_at b₁ o₁ γ₁ ms) (slice_val (b₁, o₁) (length ms) ∷ []))) ((shr_slice_copy 𝓛 (named 1) μ₁ u8).twice (ref_at b₁ o₁ γ₁ ms) _) $ split ! $ move ! (6 ∷ []) $ use1 𝓛 (‵ ((ShrSlice (named 2) μ₂ u8).own_val (ref_at b₂ o₂ γ₂ cs) (slice_val (b₂, o₂) (length cs) ∷ [])) ⊛ ‵ ((ShrSlice (named 2) μ₂ u8).own_val (ref_at b₂ o₂ γ₂ cs) (slice_val (b₂, o₂) (length cs) ∷ []))) ((shr_slice_copy 𝓛 (named 2) μ₂ u8).twice (ref_at b₂ o₂ γ₂ cs) _) $ split ! $
         move ! (7 ∷ 6 ∷ []) $ join ! $ move ! (3 ∷ 1 ∷ 0 ∷ 4 ∷ 2 ∷ []) $ join ! $ use2 𝓛 (raw ((Adds 𝓛 mem run).pre (to-add 𝓛 mem run μ₁ μ₂ p₁ p₂ b₁ o₁ b₂ o₂ γ₁ γ₂ ms cs x there old (ltb f (length ys))))) (asks-add 𝓛 mem run μ₁ μ₂ p₁ p₂ b₁ o₁ b₂ o₂ γ₁ γ₂ ms cs x there old (ltb f (length ys)) gx gt go) $
-        calls-said add-record.ended (add-record.clauses 𝓛 mem run) ! fm ka (to-add 𝓛 mem run μ₁ μ₂ p₁ p₂ b₁ o₁ b₂ o₂ γ₁ γ₂ ms cs x there old (ltb f (length ys))) (λ t ws. AddsWith (adding_of x cs ms) (flag there.used) (ltb f (length ys)) old t.number t.session) (λ t ws. id⊢ 𝓤 _) mach_t (LL.tells Ch.the_type Ch'.the_laws) (and_then ! (local ! 41 refl) (and_then ! (local ! 37 refl) (and_then ! (local ! 33 refl) (and_then ! (local ! 31 refl) (and_then ! (local ! 45 refl) (and_then ! (local ! 43 refl) (no_more !))))))) (λ t ws et gt'.
+        calls_said add-record.ended (add-record.clauses 𝓛 mem run) ! fm ka (to-add 𝓛 mem run μ₁ μ₂ p₁ p₂ b₁ o₁ b₂ o₂ γ₁ γ₂ ms cs x there old (ltb f (length ys))) (λ t ws. AddsWith (adding_of x cs ms) (flag there.used) (ltb f (length ys)) old t.number t.session) (λ t ws. id⊢ 𝓤 _) mach_t (LL.tells Ch.the_type Ch'.the_laws) (and_then ! (local ! 41 refl) (and_then ! (local ! 37 refl) (and_then ! (local ! 33 refl) (and_then ! (local ! 31 refl) (and_then ! (local ! 45 refl) (and_then ! (local ! 43 refl) (no_more !))))))) (λ t ws et gt'.
         use1 𝓛 (‵ (flft μ₁ p₁) ⊛ (‵ (flft μ₂ p₂) ⊛ ‵ ftrue)) (id⊢ 𝓤 _) $ split ! $ move ! (1 ∷ []) $ split ! $ move ! (1 ∷ 3 ∷ []) $ drop ! $ drop ! $ move ! (1 ∷ 0 ∷ []) $
-        land ! (from ! (stop !)) (init ! 30 refl (changed-typed 𝓛 t gt')) $
+        land ! (from ! (stop !)) (init ! 30 refl (changed_typed 𝓛 t gt')) $
         reborrows ! refl refl (look_in ! 56 (sub ! 0 refl (whole !))) (init ! 8 refl (tt, tt)) (look ! 8 refl) (look_in ! 56 (sub ! 1 refl (whole !))) (init ! 6 refl (tt, (tt, (record { fits = room.0 }, tt)))) $
         let parts = LL.owed Ch.the_type Ch'.the_laws t _ gt' in
-        move ! (5 ∷ 4 ∷ []) $ calls-put mem run κ q b o γ ys ! fm kp f t.session gf parts.1.0 (and_then ! (local ! 5 refl) (and_then ! (local ! 35 refl) (and_then ! (load ! (from ! (fld ! refl (stop !))) (look_in ! 29 (sub ! 1 refl (whole !)))) (no_more !)))) (λ zs ez lz.
+        move ! (5 ∷ 4 ∷ []) $ calls_put mem run κ q b o γ ys ! fm kp f t.session gf parts.1.0 (and_then ! (local ! 5 refl) (and_then ! (local ! 35 refl) (and_then ! (load ! (from ! (fld ! refl (stop !))) (look_in ! 29 (sub ! 1 refl (whole !)))) (no_more !)))) (λ zs ez lz.
         land ! (from ! (stop !)) (init ! 10 refl (tt, tt)) $
         assigns ! (of_opd ! (load ! (from ! (fld ! refl (stop !))) (look_in ! 30 (sub ! 0 refl (whole !))))) (from ! (stop !)) (init ! 58 refl ((uint_Lawful 𝓛 w32).typed t.number _ parts.0).0) $
         returns ! (look ! 58 refl) $ leaves ! 6 (holds _ ∷ holds _ ∷ holds _ ∷ holds _ ∷ holds _ ∷ holds _ ∷ holds _ ∷ holds _ ∷ holds _ ∷ holds _ ∷ holds _ ∷ holds _ ∷ holds _ ∷ holds _ ∷ holds _ ∷ holds _ ∷ holds _ ∷ holds _ ∷ holds _ ∷ holds _ ∷ holds _ ∷ holds _ ∷ holds _ ∷ holds _ ∷ holds _ ∷ holds _ ∷ holds _ ∷ []) refl $
         keep ! (0 ∷ 2 ∷ 3 ∷ 1 ∷ 4 ∷ 5 ∷ []) $ by ! (exits t.number _ zs parts.0 lz
-        (added-says ys zs (adding_for c id guest anonymous) ms cs i f there old t e e' ef eo (subst (λ (y : Adding). AddsWith (adding_of y cs ms) (flag there.used) (ltb f (length ys)) old t.number t.session) ex et) ez)))))))))))))))))))))))))))))))))))))
+        (added_says ys zs (adding_for c id guest anonymous) ms cs i f there old t e e' ef eo (subst (λ (y : Adding). AddsWith (adding_of y cs ms) (flag there.used) (ltb f (length ys)) old t.number t.session) ex et) ez)))))))))))))))))))))))))))))))))))))
 
 add_meets : {M : Type 1} {𝓤 : Ura M} (𝓛 : Logic 𝓤) (mem : Memory → SProp 𝓤) (run : Routine → Fun 𝓤) (𝓣 : Tables 𝓤 𝓛.H) → Triple 𝓤 (𝓣.C #session-record·adding-for) (Makes 𝓛 mem run) → Triple 𝓤 (𝓣.C #session-table·find) (Finds 𝓛 mem run) → Triple 𝓤 (𝓣.C #session-table·at) (Gets 𝓛 mem run) → Triple 𝓤 (𝓣.C #session-calls·add-record) (Adds 𝓛 mem run) → Triple 𝓤 (𝓣.C #session-table·put-at) (Puts 𝓛 mem run) → Meets 𝓛 add.signature (WpFn 𝓤 𝓛.H 𝓣.C 𝓣.Λ code.function) (add.spec 𝓛 mem run)
 add_meets {𝓤 = 𝓤} 𝓛 mem run 𝓣 km kf kg ka kp =

@@ -7,7 +7,7 @@ use Rattle.session_table.proofs.Kit.{usize, !, Calls, FmC, Fun, GName, Is, Lft, 
 use Rattle.session_record.specs.declared.Session.{Session}
 use Rattle.session_table.specs.Place.{place_of}
 use Rattle.session_table.proofs.Walk.{R}
-use Rattle.session_table.proofs.Lending.{ref_at, Shr, Finds, calls-find}
+use Rattle.session_table.proofs.Lending.{ref_at, Shr, Finds, calls_find}
 use Rattle.session_table.proofs.Leaving.{leaves, holds}
 use Rattle.session_table.proofs.Operands.{local}
 use Rattle.session_table.proofs.find.Symbol as find-def
@@ -52,7 +52,7 @@ module _ {M : Type 1} {𝓤 : Ura M} (𝓛 : Logic 𝓤) (mem : Memory → SProp
         pass1 ! (init ! 2 refl (tt, (tt, (record { fits = room.0 }, tt)))) $ pass1 ! (init ! 0 refl (tt, record { fits = id-fits })) $ pass0 ! $
         -- [_2; …; _0; …; the token; what the parameters own]  to  [the token; the table; _2; …]
         move ! (7 ∷ []) $ fsplit ! $ move ! (1 ∷ []) $ drop ! $ move ! (7 ∷ []) $ split ! $ move ! (1 ∷ []) $ drop ! $
-        calls-find mem run κ q b o γ ys ! fm kf true id id-fits (and_then ! (local ! 4 refl) (and_then ! (true_lit !) (and_then ! (local ! 2 refl) (no_more !)))) (λ i e gi.
+        calls_find mem run κ q b o γ ys ! fm kf true id id-fits (and_then ! (local ! 4 refl) (and_then ! (true_lit !) (and_then ! (local ! 2 refl) (no_more !)))) (λ i e gi.
         land ! (from ! (stop !)) (init ! 6 refl (tt, record { fits = gi })) $
         returns ! (look ! 6 refl) $ leaves ! 2 (holds _ ∷ holds _ ∷ holds _ ∷ []) refl $
         by ! (exits i gi e)))))

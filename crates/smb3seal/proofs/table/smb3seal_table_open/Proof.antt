@@ -21,23 +21,23 @@ use Rattle.session_table.specs.Reading.{table_of}
 use Rattle.protocol.specs.Answer.{answer_number, carried}
 use Rattle.protocol.specs.Calls.{opening, message_and_table}
 use Rattle.smb3seal.specs.Exports.{Reports}
-use Rattle.smb3seal.proofs.Laws.{reported-alone}
-use Rattle.smb3seal.proofs.Report.{Reporting, to-report, asks-report}
+use Rattle.smb3seal.proofs.Laws.{reported_alone}
+use Rattle.smb3seal.proofs.Report.{Reporting, to_report, asks_report}
 use Rattle.answer.specs.contracts.report as report
 use Rattle.answer.proofs.report.Symbol as report-def
 use Rattle.answer.proofs.report.Symbol.{name as #answer·report}
 use Rattle.answer.proofs.report.Met as report-thm
-use Rattle.session_table.proofs.TableCalls.{opened-says}
+use Rattle.session_table.proofs.TableCalls.{opened_says}
 use Rattle.connection.specs.contracts.Connection as Cn
 use Rattle.connection.proofs.Connection.TheLaws as Cn'
 use Rattle.answer.specs.contracts.Answer as An
 use Rattle.answer.proofs.Answer.TheLaws as An'
-use Rattle.session_table.proofs.Walk.{R, mach, typed, record-owned}
-use Rattle.session_table.proofs.Values.{ConnectionT, AnswerT, mach_c, mach_a, connection-typed, answer_typed, connection-owned, answer-owned}
+use Rattle.session_table.proofs.Walk.{R, mach, typed, record_owned}
+use Rattle.session_table.proofs.Values.{ConnectionT, AnswerT, mach_c, mach_a, connection_typed, answer_typed, connection_owned, answer_owned}
 use Rattle.session_table.proofs.Leaving.{leaves, holds}
 use Rattle.session_table.proofs.Operands.{local, reborrows}
-use Rattle.session_table.proofs.Said.{calls-said}
-use Rattle.session_table.proofs.Lending.{ref_at, lend, back, Finds, Gets, Shr, calls-find, calls-get}
+use Rattle.session_table.proofs.Said.{calls_said}
+use Rattle.session_table.proofs.Lending.{ref_at, lend, back, Finds, Gets, Shr, calls_find, calls_get}
 use Rattle.session_table.proofs.find.Symbol as find-def
 use Rattle.session_table.proofs.find.Symbol.{name as #session-table·find}
 use Rattle.session_table.proofs.find.Met as find-thm
@@ -82,7 +82,7 @@ module _ {M : Type 1} {𝓤 : Ura M} (𝓛 : Logic 𝓤) (mem : Memory → SProp
     asks-open : (s : Session) (c : Connection) → Is R s (mach s ∷ []) → Is ConnectionT c (mach_c c ∷ []) → ent 𝓤 (sep 𝓤 (A.lft μ p) (sem 𝓛 ((MutSlice (named 1) μ u8).own_val (ref_at b o γ ms) (slice_val (b, o) (length ms) ∷ [])))) (Opens.pre (to-open s c))
     asks-open s c gs gc =
         qed 𝓛 (‵ (flft μ p) ∷ ‵ ((MutSlice (named 1) μ u8).own_val (ref_at b o γ ms) (slice_val (b, o) (length ms) ∷ [])) ∷ []) ∵ nothing ! $ move ! (1 ∷ 0 ∷ []) $ join ! $
-        nothing ! $ move ! (2 ∷ 0 ∷ []) $ fjoin ! $ connection-owned ! c _ gc $ fjoin ! $ record-owned ! s _ gs $ fjoin ! $ move ! (1 ∷ 0 ∷ []) $ join ! $ frame ! $ done !
+        nothing ! $ move ! (2 ∷ 0 ∷ []) $ fjoin ! $ connection_owned ! c _ gc $ fjoin ! $ record_owned ! s _ gs $ fjoin ! $ move ! (1 ∷ 0 ∷ []) $ join ! $ frame ! $ done !
 
 module _ {M : Type 1} {𝓤 : Ura M} (𝓛 : Logic 𝓤) (mem : Memory → SProp 𝓤) (run : Routine → Fun 𝓤) (κ μ η : Lft) (q p w : Share) (b o : ℕ) (γ : GName) (ys : List Session) (c : Connection) (b' o' : ℕ) (γ' : GName) (ms : List ℕ) (b'' o'' : ℕ) (γ'' : GName) (h : ℕ)
     (room : Room R (length ys)) (gc : Is ConnectionT c (mach_c c ∷ [])) (room' : Room u8 (length ms)) where
@@ -112,7 +112,7 @@ module _ {M : Type 1} {𝓤 : Ura M} (𝓛 : Logic 𝓤) (mem : Memory → SProp
       qed 𝓛 (‵ (flft κ q) ∷ ‵ (flft μ p) ∷ ‵ (flft η w) ∷ ‵ (Shr κ b o γ ys) ∷ ‵ (finally u8 γ' fs) ∷ ‵ (fres γ'' (u64.coded.code h')) ∷ []) ∵
       suffices ! _ (ends_at 𝓛 opening.ended stayed (opening.clauses 𝓛 mem run) (((κ, (μ, (η, tt))), (q, (p, (w, tt))), tt, a, vals), tt) (vint w32 r) r (tt, (tt, (fs, (h', tt)))) (tt, (tt, (lf, (tt, tt))))) $ says ! said $
       nothing ! $ move ! (3 ∷ 0 ∷ []) $ join ! $ move ! (2 ∷ 0 ∷ []) $ join ! $ move ! (1 ∷ 0 ∷ []) $ join ! $ frame ! $
-      nothing ! $ move ! (3 ∷ 0 ∷ []) $ fjoin ! $ move ! (2 ∷ 0 ∷ []) $ fjoin ! $ connection-owned ! c _ gc $ fjoin ! $ move ! (1 ∷ 0 ∷ []) $ fjoin ! $ frame ! $
+      nothing ! $ move ! (3 ∷ 0 ∷ []) $ fjoin ! $ move ! (2 ∷ 0 ∷ []) $ fjoin ! $ connection_owned ! c _ gc $ fjoin ! $ move ! (1 ∷ 0 ∷ []) $ fjoin ! $ frame ! $
       owned ! u32 (Is u32) (uint_Makes 𝓛 w32) r _ is $ done !
 
   module _ (C : Calls 𝓤 H) (Λ : Loops 𝓤 H) (fm : FmC 𝓤 H 𝓛.laws C) (ki : Triple 𝓤 (C #session-record·session-id) (Ids 𝓛 mem run)) (kf : Triple 𝓤 (C #session-table·find) (Finds 𝓛 mem run)) (kg : Triple 𝓤 (C #session-table·at) (Gets 𝓛 mem run)) (ko : Triple 𝓤 (C #session-calls·open-record) (Opens 𝓛 mem run)) (kr : Triple 𝓤 (C #answer·report) (Reporting 𝓛 mem run)) where
@@ -120,7 +120,7 @@ module _ {M : Type 1} {𝓤 : Ura M} (𝓛 : Logic 𝓤) (mem : Memory → SProp
     walk =
         qed 𝓛 ((‵ (flft κ q) ⊛ (‵ (flft μ p) ⊛ (‵ (flft η w) ⊛ ‵ ftrue))) ∷ ‵ (owns (ShrSlice (named 0) κ R ∷ ConnectionT ∷ MutSlice (named 1) μ u8 ∷ MutRef (named 2) η u64 ∷ []) a vals) ∷ []) ∵ enter ! C Λ code.function (sl ∷ mach_c c ∷ ml ∷ vptr b'' o'' ∷ []) _ $
         alloc1 ! (λ l₀. alloc1 ! (λ l₁. alloc1 ! (λ l₂. alloc1 ! (λ l₃. alloc1 ! (λ l₄. alloc1 ! (λ l₅. alloc1 ! (λ l₆. alloc1 ! (λ l₇. alloc1 ! (λ l₈. alloc1 ! (λ l₉. alloc1 ! (λ l₁₀. alloc1 ! (λ l₁₁. alloc1 ! (λ l₁₂. alloc1 ! (λ l₁₃. alloc0 ! $ params1 ! $
-        pass1 ! (init ! 24 refl (tt, (tt, (record { fits = room.0 }, tt)))) $ pass1 ! (init ! 22 refl (connection-typed 𝓛 c gc)) $ pass1 ! (init ! 20 refl (tt, (tt, (record { fits = room'.0 }, tt)))) $ pass1 ! (init ! 18 refl (tt, tt)) $ pass0 ! $
+        pass1 ! (init ! 24 refl (tt, (tt, (record { fits = room.0 }, tt)))) $ pass1 ! (init ! 22 refl (connection_typed 𝓛 c gc)) $ pass1 ! (init ! 20 refl (tt, (tt, (record { fits = room'.0 }, tt)))) $ pass1 ! (init ! 18 refl (tt, tt)) $ pass0 ! $
         -- [_13; …; _0; …; the tokens; what the parameters own]  to  [the message; its token; the table's token; the table; the headers' token; the headers; _13; …]
         move ! (29 ∷ []) $ fsplit ! $ move ! (1 ∷ []) $ fsplit ! $ drop ! $ fsplit ! $ move ! (1 ∷ []) $ fsplit ! $ move ! (1 ∷ []) $ drop ! $
         move ! (31 ∷ []) $ split ! $ move ! (1 ∷ []) $ split ! $ move ! (1 ∷ []) $ split ! $ move ! (1 ∷ []) $ drop ! $ move ! (4 ∷ 1 ∷ 2 ∷ 5 ∷ 0 ∷ 3 ∷ []) $
@@ -128,31 +128,31 @@ module _ {M : Type 1} {𝓤 : Ura M} (𝓛 : Logic 𝓤) (mem : Memory → SProp
         lend u8 (named 1) μ p γ' b' o' ms ! tt (λ ν δ.
         reborrows ! refl refl (look_in ! 27 (sub ! 0 refl (whole !))) (init ! 15 refl (tt, tt)) (look ! 15 refl) (look_in ! 27 (sub ! 1 refl (whole !))) (init ! 13 refl (tt, (tt, (record { fits = room'.0 }, tt)))) $
         move ! (1 ∷ []) $ use1 𝓛 (‵ ((ShrSlice (named 0) (ν ∷ []) u8).own_val (ref_at b' o' δ ms) (ml ∷ [])) ⊛ ‵ ((ShrSlice (named 0) (ν ∷ []) u8).own_val (ref_at b' o' δ ms) (ml ∷ []))) ((shr_slice_copy 𝓛 (named 0) (ν ∷ []) u8).twice (ref_at b' o' δ ms) _) $ split ! $ move ! (2 ∷ 0 ∷ []) $ use2 𝓛 (raw ((Ids 𝓛 mem run).pre (to-id 𝓛 mem run (ν ∷ []) full_share b' o' δ ms))) (asks-id 𝓛 mem run (ν ∷ []) full_share b' o' δ ms) $
-        calls-said session-id.ended (session-id.clauses 𝓛 mem run) ! fm ki (to-id 𝓛 mem run (ν ∷ []) full_share b' o' δ ms) (λ r ws. r ≡ named_id ms) (λ r ws. id⊢ 𝓤 _) (vint w64) (uint_Tells w64) (and_then ! (local ! 13 refl) (no_more !)) (λ id ws e₀ gi₀.
+        calls_said session-id.ended (session-id.clauses 𝓛 mem run) ! fm ki (to-id 𝓛 mem run (ν ∷ []) full_share b' o' δ ms) (λ r ws. r ≡ named_id ms) (λ r ws. id⊢ 𝓤 _) (vint w64) (uint_Tells w64) (and_then ! (local ! 13 refl) (no_more !)) (λ id ws e₀ gi₀.
         let gid = gi₀.1 in
         use1 𝓛 (‵ (flft (ν ∷ []) full_share) ⊛ ‵ ftrue) (id⊢ 𝓤 _) $ split ! $ move ! (1 ∷ 2 ∷ []) $ drop ! $ drop ! $
         land ! (from ! (stop !)) (init ! 23 refl (tt, record { fits = gid })) $
         back u8 (named 1) μ p γ' b' o' ms ! tt ν δ room' $ move ! (2 ∷ 3 ∷ []) $
         -- [the table's token; the table; the message; its token; the headers' token; the headers; _13; …]
-        calls-find mem run κ q b o γ ys ! fm kf true id gid (and_then ! (local ! 30 refl) (and_then ! (true_lit !) (and_then ! (local ! 22 refl) (no_more !)))) (λ i e gi.
+        calls_find mem run κ q b o γ ys ! fm kf true id gid (and_then ! (local ! 30 refl) (and_then ! (true_lit !) (and_then ! (local ! 22 refl) (no_more !)))) (λ i e gi.
         land ! (from ! (stop !)) (init ! 20 refl (tt, record { fits = gi })) $
-        calls-get mem run κ q b o γ ys ! fm kg i gi (and_then ! (local ! 30 refl) (and_then ! (local ! 20 refl) (no_more !))) (λ s e' gs.
+        calls_get mem run κ q b o γ ys ! fm kg i gi (and_then ! (local ! 30 refl) (and_then ! (local ! 20 refl) (no_more !))) (λ s e' gs.
         land ! (from ! (stop !)) (init ! 18 refl (typed 𝓛 s (mach s) gs)) $
         reborrows ! refl refl (look_in ! 26 (sub ! 0 refl (whole !))) (init ! 10 refl (tt, tt)) (look ! 10 refl) (look_in ! 26 (sub ! 1 refl (whole !))) (init ! 8 refl (tt, (tt, (record { fits = room'.0 }, tt)))) $
         move ! (3 ∷ 2 ∷ []) $ use2 𝓛 (raw ((Opens 𝓛 mem run).pre (to-open 𝓛 mem run μ p b' o' γ' ms s c))) (asks-open 𝓛 mem run μ p b' o' γ' ms s c gs gc) $
-        calls-said open-record.ended (open-record.clauses 𝓛 mem run) ! fm ko (to-open 𝓛 mem run μ p b' o' γ' ms s c) (λ x ws. OpensWith (session_of s) (connection_of c) ms ws.1.1.0 (answer_of x)) (λ x ws. id⊢ 𝓤 _) mach_a (EL.tells An.the_type An'.the_laws) (and_then ! (local ! 17 refl) (and_then ! (local ! 27 refl) (and_then ! (local ! 7 refl) (no_more !)))) (λ x ws said gx.
+        calls_said open-record.ended (open-record.clauses 𝓛 mem run) ! fm ko (to-open 𝓛 mem run μ p b' o' γ' ms s c) (λ x ws. OpensWith (session_of s) (connection_of c) ms ws.1.1.0 (answer_of x)) (λ x ws. id⊢ 𝓤 _) mach_a (EL.tells An.the_type An'.the_laws) (and_then ! (local ! 17 refl) (and_then ! (local ! 27 refl) (and_then ! (local ! 7 refl) (no_more !)))) (λ x ws said gx.
         use1 𝓛 (‵ (flft μ p) ⊛ ‵ ftrue) (id⊢ 𝓤 _) $ split ! $ move ! (1 ∷ []) $ drop ! $ move ! (1 ∷ []) $ fsplit ! $ drop ! $ fsplit ! $ drop ! $ fsplit ! $ fsplit ! $ move ! (1 ∷ []) $ feq_l ! (λ lf. move ! (1 ∷ []) $ drop ! $ move ! (1 ∷ 0 ∷ []) $
         land ! (from ! (stop !)) (init ! 16 refl (answer_typed 𝓛 x gx)) $
         -- the headers go to `report`: [the message's token; its last bytes; the table's token; the table; the headers' token; the headers; _13; …]
         assigns ! (addr ! (from ! (hop ! (look ! 24 refl) (stop !)))) (from ! (stop !)) (init ! 6 refl (tt, tt)) $
-        move ! (4 ∷ 5 ∷ []) $ use2 𝓛 (raw ((Reporting 𝓛 mem run).pre (to-report 𝓛 mem run η w hr x))) (asks-report 𝓛 mem run η w hr x gx) $
-        calls-said report.ended (report.clauses 𝓛 mem run) ! fm kr (to-report 𝓛 mem run η w hr x) (λ r ws''. (r ≡ answer_number (answer_of x)) × (ws''.1.0 ≡ carried (answer_of x) h)) (λ r ws''. id⊢ 𝓤 _) (vint w32) (uint_Tells w32) (and_then ! (local ! 15 refl) (and_then ! (local ! 5 refl) (no_more !))) (λ r ws'' told gr.
+        move ! (4 ∷ 5 ∷ []) $ use2 𝓛 (raw ((Reporting 𝓛 mem run).pre (to_report 𝓛 mem run η w hr x))) (asks_report 𝓛 mem run η w hr x gx) $
+        calls_said report.ended (report.clauses 𝓛 mem run) ! fm kr (to_report 𝓛 mem run η w hr x) (λ r ws''. (r ≡ answer_number (answer_of x)) × (ws''.1.0 ≡ carried (answer_of x) h)) (λ r ws''. id⊢ 𝓤 _) (vint w32) (uint_Tells w32) (and_then ! (local ! 15 refl) (and_then ! (local ! 5 refl) (no_more !))) (λ r ws'' told gr.
         use1 𝓛 (‵ (flft η w) ⊛ ‵ ftrue) (id⊢ 𝓤 _) $ split ! $ move ! (1 ∷ []) $ drop ! $ move ! (1 ∷ []) $ fsplit ! $ drop ! $ fsplit ! $ move ! (1 ∷ []) $ drop ! $
         -- [the headers' last number; their token; the message's token; its last bytes; the table's token; the table; _13; …]
         land ! (from ! (stop !)) (init ! 32 refl (tt, record { fits = gr.1 })) $
         returns ! (look ! 32 refl) $ leaves ! 6 (holds _ ∷ holds _ ∷ holds _ ∷ holds _ ∷ holds _ ∷ holds _ ∷ holds _ ∷ holds _ ∷ holds _ ∷ holds _ ∷ holds _ ∷ holds _ ∷ holds _ ∷ holds _ ∷ []) refl $
         keep ! (4 ∷ 2 ∷ 1 ∷ 5 ∷ 3 ∷ 0 ∷ []) $ by ! (exits r ws.1.1.0 ws''.1.0 gr lf
-        (reported-alone (opening (connection_of c)) _ _ (answer_of x) (opened-says (connection_of c) ms ys id i ws.1.1.0 s (answer_of x) e₀ e e' said) r told.0 h ws''.1.0 told.1)))))))))))))))))))))))
+        (reported_alone (opening (connection_of c)) _ _ (answer_of x) (opened_says (connection_of c) ms ys id i ws.1.1.0 s (answer_of x) e₀ e e' said) r told.0 h ws''.1.0 told.1)))))))))))))))))))))))
 
 open-meets : {M : Type 1} {𝓤 : Ura M} (𝓛 : Logic 𝓤) (mem : Memory → SProp 𝓤) (run : Routine → Fun 𝓤) (𝓣 : Tables 𝓤 𝓛.H) → Triple 𝓤 (𝓣.C #session-record·session-id) (Ids 𝓛 mem run) → Triple 𝓤 (𝓣.C #session-table·find) (Finds 𝓛 mem run) → Triple 𝓤 (𝓣.C #session-table·at) (Gets 𝓛 mem run) → Triple 𝓤 (𝓣.C #session-calls·open-record) (Opens 𝓛 mem run) → Triple 𝓤 (𝓣.C #answer·report) (Reporting 𝓛 mem run) → Meets 𝓛 opening.signature (WpFn 𝓤 𝓛.H 𝓣.C 𝓣.Λ code.function) (opening.spec 𝓛 mem run)
 open-meets {𝓤 = 𝓤} 𝓛 mem run 𝓣 ki kf kg ko kr =

@@ -10,17 +10,17 @@ use Rattle.session_record.specs.declared.Session.{Session}
 use Rattle.session_record.specs.Clauses.{removed_of}
 use Rattle.session_record.specs.contracts.Changed as Ch
 use Rattle.session_record.proofs.Changed.TheLaws as Ch'
-use Rattle.session_table.proofs.Walk.{R, mach, typed, record-owned}
-use Rattle.session_table.proofs.Values.{mach_t, changed-typed}
+use Rattle.session_table.proofs.Walk.{R, mach, typed, record_owned}
+use Rattle.session_table.proofs.Values.{mach_t, changed_typed}
 use Rattle.session_table.proofs.Leaving.{leaves, holds}
 use Rattle.session_table.proofs.Operands.{local, reborrows}
 use Rattle.protocol.specs.Calls.{removing, only_table}
 use Rattle.protocol.specs.Contract.{Returns}
 use Rattle.session_table.specs.Reading.{table_of}
 use Rattle.session_table.specs.Exactly.{Exactly}
-use Rattle.session_table.proofs.TableCalls.{removed-says}
-use Rattle.session_table.proofs.Said.{calls-said}
-use Rattle.session_table.proofs.Lending.{ref_at, lend, back, Finds, Gets, Puts, calls-find, calls-get, calls-put}
+use Rattle.session_table.proofs.TableCalls.{removed_says}
+use Rattle.session_table.proofs.Said.{calls_said}
+use Rattle.session_table.proofs.Lending.{ref_at, lend, back, Finds, Gets, Puts, calls_find, calls_get, calls_put}
 use Rattle.session_table.proofs.find.Symbol as find-def
 use Rattle.session_table.proofs.find.Symbol.{name as #session-table·find}
 use Rattle.session_table.proofs.find.Met as find-thm
@@ -50,7 +50,7 @@ module _ {M : Type 1} {𝓤 : Ura M} (𝓛 : Logic 𝓤) (mem : Memory → SProp
   to-remove s = ((tt, tt, tt, (s, tt), (mach s ∷ [], tt)), tt)
 
   asks-remove : (s : Session) → Is R s (mach s ∷ []) → ent 𝓤 (emp 𝓤) (Removes.pre (to-remove s))
-  asks-remove s gs = qed 𝓛 [] ∵ nothing ! $ record-owned ! s _ gs $ fjoin ! $ nothing ! $ join ! $ frame ! $ done !
+  asks-remove s gs = qed 𝓛 [] ∵ nothing ! $ record_owned ! s _ gs $ fjoin ! $ nothing ! $ join ! $ frame ! $ done !
 
 module _ {M : Type 1} {𝓤 : Ura M} (𝓛 : Logic 𝓤) (mem : Memory → SProp 𝓤) (run : Routine → Fun 𝓤) (κ : Lft) (q : Share) (b o : ℕ) (γ : GName) (ys : List Session) (id : ℕ) (room : Room R (length ys)) (id-fits : id < 2 ^ 64) where
   open 𝓛 use {H}
@@ -90,23 +90,23 @@ module _ {M : Type 1} {𝓤 : Ura M} (𝓛 : Logic 𝓤) (mem : Memory → SProp
         -- the table is lent as `&`: [ν's token; the `&`; what is lent out; _12; …]
         lend R (named 0) κ q γ b o ys ! tt (λ ν δ.
         reborrows ! refl refl (look_in ! 25 (sub ! 0 refl (whole !))) (init ! 15 refl (tt, tt)) (look ! 15 refl) (look_in ! 25 (sub ! 1 refl (whole !))) (init ! 13 refl (tt, (tt, (record { fits = room.0 }, tt)))) $
-        calls-find mem run (ν ∷ []) full_share b o δ ys ! fm kf true id id-fits (and_then ! (local ! 13 refl) (and_then ! (true_lit !) (and_then ! (local ! 23 refl) (no_more !)))) (λ i e gi.
+        calls_find mem run (ν ∷ []) full_share b o δ ys ! fm kf true id id-fits (and_then ! (local ! 13 refl) (and_then ! (true_lit !) (and_then ! (local ! 23 refl) (no_more !)))) (λ i e gi.
         land ! (from ! (stop !)) (init ! 21 refl (tt, record { fits = gi })) $
         reborrows ! refl refl (look_in ! 25 (sub ! 0 refl (whole !))) (init ! 11 refl (tt, tt)) (look ! 11 refl) (look_in ! 25 (sub ! 1 refl (whole !))) (init ! 9 refl (tt, (tt, (record { fits = room.0 }, tt)))) $
-        calls-get mem run (ν ∷ []) full_share b o δ ys ! fm kg i gi (and_then ! (local ! 9 refl) (and_then ! (local ! 21 refl) (no_more !))) (λ s e' gs.
+        calls_get mem run (ν ∷ []) full_share b o δ ys ! fm kg i gi (and_then ! (local ! 9 refl) (and_then ! (local ! 21 refl) (no_more !))) (λ s e' gs.
         land ! (from ! (stop !)) (init ! 19 refl (typed 𝓛 s (mach s) gs)) $
         -- it is back: [the table; its token; _12; …]
         back R (named 0) κ q γ b o ys ! tt ν δ room $
         use0 𝓛 (raw ((Removes 𝓛 mem run).pre (to-remove 𝓛 mem run s))) (asks-remove 𝓛 mem run s gs) $
-        calls-said remove-record.ended (remove-record.clauses 𝓛 mem run) ! fm kr (to-remove 𝓛 mem run s) (λ t ws. t ≡ removed_of s) (λ t ws. id⊢ 𝓤 _) mach_t (LL.tells Ch.the_type Ch'.the_laws) (and_then ! (local ! 19 refl) (no_more !)) (λ t ws et gt. drop ! $ drop ! $
-        land ! (from ! (stop !)) (init ! 16 refl (changed-typed 𝓛 t gt)) $
+        calls_said remove-record.ended (remove-record.clauses 𝓛 mem run) ! fm kr (to-remove 𝓛 mem run s) (λ t ws. t ≡ removed_of s) (λ t ws. id⊢ 𝓤 _) mach_t (LL.tells Ch.the_type Ch'.the_laws) (and_then ! (local ! 19 refl) (no_more !)) (λ t ws et gt. drop ! $ drop ! $
+        land ! (from ! (stop !)) (init ! 16 refl (changed_typed 𝓛 t gt)) $
         reborrows ! refl refl (look_in ! 24 (sub ! 0 refl (whole !))) (init ! 4 refl (tt, tt)) (look ! 4 refl) (look_in ! 24 (sub ! 1 refl (whole !))) (init ! 2 refl (tt, (tt, (record { fits = room.0 }, tt)))) $
         let parts = LL.owed Ch.the_type Ch'.the_laws t _ gt in
-        move ! (1 ∷ 0 ∷ []) $ calls-put mem run κ q b o γ ys ! fm kp i t.session gi parts.1.0 (and_then ! (local ! 1 refl) (and_then ! (local ! 19 refl) (and_then ! (load ! (from ! (fld ! refl (stop !))) (look_in ! 15 (sub ! 1 refl (whole !)))) (no_more !)))) (λ zs ez lz.
+        move ! (1 ∷ 0 ∷ []) $ calls_put mem run κ q b o γ ys ! fm kp i t.session gi parts.1.0 (and_then ! (local ! 1 refl) (and_then ! (local ! 19 refl) (and_then ! (load ! (from ! (fld ! refl (stop !))) (look_in ! 15 (sub ! 1 refl (whole !)))) (no_more !)))) (λ zs ez lz.
         land ! (from ! (stop !)) (init ! 6 refl (tt, tt)) $
         assigns ! (of_opd ! (load ! (from ! (fld ! refl (stop !))) (look_in ! 16 (sub ! 0 refl (whole !))))) (from ! (stop !)) (init ! 26 refl ((uint_Lawful 𝓛 w32).typed t.number _ parts.0).0) $
         returns ! (look ! 26 refl) $ leaves ! 2 (holds _ ∷ holds _ ∷ holds _ ∷ holds _ ∷ holds _ ∷ holds _ ∷ holds _ ∷ holds _ ∷ holds _ ∷ holds _ ∷ holds _ ∷ holds _ ∷ holds _ ∷ []) refl $
-        by ! (exits t.number _ zs parts.0 lz (removed-says ys zs id i s t e e' et ez))))))))))))))))))))
+        by ! (exits t.number _ zs parts.0 lz (removed_says ys zs id i s t e e' et ez))))))))))))))))))))
 
 remove-meets : {M : Type 1} {𝓤 : Ura M} (𝓛 : Logic 𝓤) (mem : Memory → SProp 𝓤) (run : Routine → Fun 𝓤) (𝓣 : Tables 𝓤 𝓛.H) → Triple 𝓤 (𝓣.C #session-table·find) (Finds 𝓛 mem run) → Triple 𝓤 (𝓣.C #session-table·at) (Gets 𝓛 mem run) → Triple 𝓤 (𝓣.C #session-record·remove-record) (Removes 𝓛 mem run) → Triple 𝓤 (𝓣.C #session-table·put-at) (Puts 𝓛 mem run) → Meets 𝓛 remove.signature (WpFn 𝓤 𝓛.H 𝓣.C 𝓣.Λ code.function) (remove.spec 𝓛 mem run)
 remove-meets {𝓤 = 𝓤} 𝓛 mem run 𝓣 kf kg kr kp =

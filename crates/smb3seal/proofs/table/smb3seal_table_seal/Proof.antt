@@ -22,25 +22,25 @@ use Rattle.session_table.specs.Exactly.{Exactly}
 use Rattle.protocol.specs.Answer.{answer_number, carried}
 use Rattle.protocol.specs.Calls.{sealing, message_and_table}
 use Rattle.smb3seal.specs.Exports.{Reports}
-use Rattle.smb3seal.proofs.Laws.{reported-alone}
-use Rattle.smb3seal.proofs.Report.{Reporting, to-report, asks-report}
+use Rattle.smb3seal.proofs.Laws.{reported_alone}
+use Rattle.smb3seal.proofs.Report.{Reporting, to_report, asks_report}
 use Rattle.answer.specs.contracts.report as report
 use Rattle.answer.proofs.report.Symbol as report-def
 use Rattle.answer.proofs.report.Symbol.{name as #answer·report}
 use Rattle.answer.proofs.report.Met as report-thm
-use Rattle.session_table.proofs.TableCalls.{sealed-says}
+use Rattle.session_table.proofs.TableCalls.{sealed_says}
 use Rattle.session_record.specs.contracts.Session as T
 use Rattle.session_record.proofs.Session.TheLaws as T'
 use Rattle.connection.specs.contracts.Connection as Cn
 use Rattle.connection.proofs.Connection.TheLaws as Cn'
 use Rattle.answer.specs.contracts.Answer as An
 use Rattle.answer.proofs.Answer.TheLaws as An'
-use Rattle.session_table.proofs.Walk.{R, mach, typed, record-owned}
-use Rattle.session_table.proofs.Values.{ConnectionT, AnswerT, mach_c, mach_a, connection-typed, answer_typed, connection-owned, answer-owned}
+use Rattle.session_table.proofs.Walk.{R, mach, typed, record_owned}
+use Rattle.session_table.proofs.Values.{ConnectionT, AnswerT, mach_c, mach_a, connection_typed, answer_typed, connection_owned, answer_owned}
 use Rattle.session_table.proofs.Leaving.{leaves, holds}
 use Rattle.session_table.proofs.Operands.{local, reborrows}
-use Rattle.session_table.proofs.Said.{calls-said}
-use Rattle.session_table.proofs.Lending.{ref_at, lend, back, Finds, Gets, Moves, calls-find, calls-get, calls-step}
+use Rattle.session_table.proofs.Said.{calls_said}
+use Rattle.session_table.proofs.Lending.{ref_at, lend, back, Finds, Gets, Moves, calls_find, calls_get, calls_step}
 use Rattle.session_table.proofs.find.Symbol as find-def
 use Rattle.session_table.proofs.find.Symbol.{name as #session-table·find}
 use Rattle.session_table.proofs.find.Met as find-thm
@@ -79,7 +79,7 @@ module _ {M : Type 1} {𝓤 : Ura M} (𝓛 : Logic 𝓤) (mem : Memory → SProp
   to-how-far r = ((tt, tt, tt, (r, tt), (mach_a r ∷ [], tt)), tt)
 
   asks-how-far : (r : Answer) → Is AnswerT r (mach_a r ∷ []) → ent 𝓤 (emp 𝓤) (HowFar.pre (to-how-far r))
-  asks-how-far r gr = qed 𝓛 [] ∵ nothing ! $ answer-owned ! r _ gr $ fjoin ! $ nothing ! $ join ! $ frame ! $ done !
+  asks-how-far r gr = qed 𝓛 [] ∵ nothing ! $ answer_owned ! r _ gr $ fjoin ! $ nothing ! $ join ! $ frame ! $ done !
 
   module _ (μ : Lft) (p : Share) (b o : ℕ) (γ : GName) (ms : List ℕ) (s : Session) (c : Connection) (id : ℕ) where
     abbrev to-seal : Seals.Ghost
@@ -88,8 +88,8 @@ module _ {M : Type 1} {𝓤 : Ura M} (𝓛 : Logic 𝓤) (mem : Memory → SProp
     asks-seal : Is R s (mach s ∷ []) → Is ConnectionT c (mach_c c ∷ []) → id < 2 ^ 64 → ent 𝓤 (sep 𝓤 (A.lft μ p) (sem 𝓛 ((MutSlice (named 1) μ u8).own_val (ref_at b o γ ms) (slice_val (b, o) (length ms) ∷ [])))) (Seals.pre to-seal)
     asks-seal gs gc fits =
         qed 𝓛 (‵ (flft μ p) ∷ ‵ ((MutSlice (named 1) μ u8).own_val (ref_at b o γ ms) (slice_val (b, o) (length ms) ∷ [])) ∷ []) ∵ nothing ! $ move ! (1 ∷ 0 ∷ []) $ join ! $
-        nothing ! $ move ! (2 ∷ 0 ∷ []) $ fjoin ! $ owned ! u64 (Is u64) (uint_Makes 𝓛 w64) id _ (refl, fits) $ fjoin ! $ connection-owned ! c _ gc $ fjoin ! $
-        record-owned ! s _ gs $ fjoin ! $ move ! (1 ∷ 0 ∷ []) $ join ! $ frame ! $ done !
+        nothing ! $ move ! (2 ∷ 0 ∷ []) $ fjoin ! $ owned ! u64 (Is u64) (uint_Makes 𝓛 w64) id _ (refl, fits) $ fjoin ! $ connection_owned ! c _ gc $ fjoin ! $
+        record_owned ! s _ gs $ fjoin ! $ move ! (1 ∷ 0 ∷ []) $ join ! $ frame ! $ done !
 
 module _ {M : Type 1} {𝓤 : Ura M} (𝓛 : Logic 𝓤) (mem : Memory → SProp 𝓤) (run : Routine → Fun 𝓤) (κ μ η : Lft) (q p w : Share) (b o : ℕ) (γ : GName) (ys : List Session) (c : Connection) (id : ℕ) (b' o' : ℕ) (γ' : GName) (ms : List ℕ) (b'' o'' : ℕ) (γ'' : GName) (h : ℕ)
     (room : Room R (length ys)) (gc : Is ConnectionT c (mach_c c ∷ [])) (id-fits : id < 2 ^ 64) (room' : Room u8 (length ms)) where
@@ -122,7 +122,7 @@ module _ {M : Type 1} {𝓤 : Ura M} (𝓛 : Logic 𝓤) (mem : Memory → SProp
       suffices ! _ (ends_at 𝓛 seal.ended stayed (seal.clauses 𝓛 mem run) (((κ, (μ, (η, tt))), (q, (p, (w, tt))), tt, a, vals), tt) (vint w32 r) r (zs, (tt, (tt, (fs, (h', tt))))) (lz, (tt, (tt, (lf, (tt, tt)))))) $ says ! said $
       nothing ! $ move ! (3 ∷ 0 ∷ []) $ join ! $ move ! (2 ∷ 0 ∷ []) $ join ! $ move ! (1 ∷ 0 ∷ []) $ join ! $ frame ! $
       -- [the table's last list; the message's; the headers' last number]
-      nothing ! $ move ! (3 ∷ 0 ∷ []) $ fjoin ! $ move ! (2 ∷ 0 ∷ []) $ fjoin ! $ owned ! u64 (Is u64) (uint_Makes 𝓛 w64) id _ (refl, id-fits) $ fjoin ! $ connection-owned ! c _ gc $ fjoin ! $ move ! (1 ∷ 0 ∷ []) $ fjoin ! $ frame ! $
+      nothing ! $ move ! (3 ∷ 0 ∷ []) $ fjoin ! $ move ! (2 ∷ 0 ∷ []) $ fjoin ! $ owned ! u64 (Is u64) (uint_Makes 𝓛 w64) id _ (refl, id-fits) $ fjoin ! $ connection_owned ! c _ gc $ fjoin ! $ move ! (1 ∷ 0 ∷ []) $ fjoin ! $ frame ! $
       owned ! u32 (Is u32) (uint_Makes 𝓛 w32) r _ is $ done !
 
   module _ (C : Calls 𝓤 H) (Λ : Loops 𝓤 H) (fm : FmC 𝓤 H 𝓛.laws C) (kf : Triple 𝓤 (C #session-table·find) (Finds 𝓛 mem run)) (kg : Triple 𝓤 (C #session-table·at) (Gets 𝓛 mem run)) (ks : Triple 𝓤 (C #session-calls·seal-record) (Seals 𝓛 mem run)) (kh : Triple 𝓤 (C #session-record·counter-moves) (HowFar 𝓛 mem run)) (kp : Triple 𝓤 (C #session-table·step) (Moves 𝓛 mem run)) (kr : Triple 𝓤 (C #answer·report) (Reporting 𝓛 mem run)) where
@@ -130,45 +130,45 @@ module _ {M : Type 1} {𝓤 : Ura M} (𝓛 : Logic 𝓤) (mem : Memory → SProp
     walk =
         qed 𝓛 ((‵ (flft κ q) ⊛ (‵ (flft μ p) ⊛ (‵ (flft η w) ⊛ ‵ ftrue))) ∷ ‵ (owns (MutSlice (named 0) κ R ∷ ConnectionT ∷ u64 ∷ MutSlice (named 1) μ u8 ∷ MutRef (named 2) η u64 ∷ []) a vals) ∷ []) ∵ enter ! C Λ code.function (sl ∷ mach_c c ∷ vint w64 id ∷ ml ∷ vptr b'' o'' ∷ []) _ $
         alloc1 ! (λ l₀. alloc1 ! (λ l₁. alloc1 ! (λ l₂. alloc1 ! (λ l₃. alloc1 ! (λ l₄. alloc1 ! (λ l₅. alloc1 ! (λ l₆. alloc1 ! (λ l₇. alloc1 ! (λ l₈. alloc1 ! (λ l₉. alloc1 ! (λ l₁₀. alloc1 ! (λ l₁₁. alloc1 ! (λ l₁₂. alloc1 ! (λ l₁₃. alloc1 ! (λ l₁₄. alloc1 ! (λ l₁₅. alloc1 ! (λ l₁₆. alloc1 ! (λ l₁₇. alloc1 ! (λ l₁₈. alloc1 ! (λ l₁₉. alloc0 ! $ params1 ! $
-        pass1 ! (init ! 36 refl (tt, (tt, (record { fits = room.0 }, tt)))) $ pass1 ! (init ! 34 refl (connection-typed 𝓛 c gc)) $ pass1 ! (init ! 32 refl (tt, record { fits = id-fits })) $ pass1 ! (init ! 30 refl (tt, (tt, (record { fits = room'.0 }, tt)))) $ pass1 ! (init ! 28 refl (tt, tt)) $ pass0 ! $
+        pass1 ! (init ! 36 refl (tt, (tt, (record { fits = room.0 }, tt)))) $ pass1 ! (init ! 34 refl (connection_typed 𝓛 c gc)) $ pass1 ! (init ! 32 refl (tt, record { fits = id-fits })) $ pass1 ! (init ! 30 refl (tt, (tt, (record { fits = room'.0 }, tt)))) $ pass1 ! (init ! 28 refl (tt, tt)) $ pass0 ! $
         -- [_19; …; _0; …; the tokens; what the parameters own]  to  [the table; its token; the message's token; the message; the headers' token; the headers; _19; …]
         move ! (41 ∷ []) $ fsplit ! $ move ! (1 ∷ []) $ fsplit ! $ drop ! $ fsplit ! $ drop ! $ fsplit ! $ move ! (1 ∷ []) $ fsplit ! $ move ! (1 ∷ []) $ drop ! $
         move ! (43 ∷ []) $ split ! $ move ! (1 ∷ []) $ split ! $ move ! (1 ∷ []) $ split ! $ move ! (1 ∷ []) $ drop ! $ move ! (5 ∷ 2 ∷ 1 ∷ 4 ∷ 0 ∷ 3 ∷ []) $
         -- the table is lent as `&`: [ν's token; the `&`; what is lent out; the message's token; the message; the headers' token; the headers; _19; …]
         lend R (named 0) κ q γ b o ys ! tt (λ ν δ.
         reborrows ! refl refl (look_in ! 43 (sub ! 0 refl (whole !))) (init ! 25 refl (tt, tt)) (look ! 25 refl) (look_in ! 43 (sub ! 1 refl (whole !))) (init ! 23 refl (tt, (tt, (record { fits = room.0 }, tt)))) $
-        calls-find mem run (ν ∷ []) full_share b o δ ys ! fm kf true id id-fits (and_then ! (local ! 23 refl) (and_then ! (true_lit !) (and_then ! (local ! 39 refl) (no_more !)))) (λ i e gi.
+        calls_find mem run (ν ∷ []) full_share b o δ ys ! fm kf true id id-fits (and_then ! (local ! 23 refl) (and_then ! (true_lit !) (and_then ! (local ! 39 refl) (no_more !)))) (λ i e gi.
         land ! (from ! (stop !)) (init ! 33 refl (tt, record { fits = gi })) $
         reborrows ! refl refl (look_in ! 43 (sub ! 0 refl (whole !))) (init ! 21 refl (tt, tt)) (look ! 21 refl) (look_in ! 43 (sub ! 1 refl (whole !))) (init ! 19 refl (tt, (tt, (record { fits = room.0 }, tt)))) $
-        calls-get mem run (ν ∷ []) full_share b o δ ys ! fm kg i gi (and_then ! (local ! 19 refl) (and_then ! (local ! 33 refl) (no_more !))) (λ s e' gs.
+        calls_get mem run (ν ∷ []) full_share b o δ ys ! fm kg i gi (and_then ! (local ! 19 refl) (and_then ! (local ! 33 refl) (no_more !))) (λ s e' gs.
         land ! (from ! (stop !)) (init ! 31 refl (typed 𝓛 s (mach s) gs)) $
         -- it is back, and the message goes to `seal_record`
         back R (named 0) κ q γ b o ys ! tt ν δ room $
         reborrows ! refl refl (look_in ! 36 (sub ! 0 refl (whole !))) (init ! 16 refl (tt, tt)) (look ! 16 refl) (look_in ! 36 (sub ! 1 refl (whole !))) (init ! 14 refl (tt, (tt, (record { fits = room'.0 }, tt)))) $
         move ! (2 ∷ 3 ∷ []) $ use2 𝓛 (raw ((Seals 𝓛 mem run).pre (to-seal 𝓛 mem run μ p b' o' γ' ms s c id))) (asks-seal 𝓛 mem run μ p b' o' γ' ms s c id gs gc id-fits) $
-        calls-said seal-record.ended (seal-record.clauses 𝓛 mem run) ! fm ks (to-seal 𝓛 mem run μ p b' o' γ' ms s c id) (λ x ws. SealsWith (session_of s) (connection_of c) id ms ws.1.1.1.0 (answer_of x)) (λ x ws. id⊢ 𝓤 _) mach_a (EL.tells An.the_type An'.the_laws) (and_then ! (local ! 29 refl) (and_then ! (local ! 39 refl) (and_then ! (local ! 37 refl) (and_then ! (local ! 13 refl) (no_more !))))) (λ x ws said gx.
+        calls_said seal-record.ended (seal-record.clauses 𝓛 mem run) ! fm ks (to-seal 𝓛 mem run μ p b' o' γ' ms s c id) (λ x ws. SealsWith (session_of s) (connection_of c) id ms ws.1.1.1.0 (answer_of x)) (λ x ws. id⊢ 𝓤 _) mach_a (EL.tells An.the_type An'.the_laws) (and_then ! (local ! 29 refl) (and_then ! (local ! 39 refl) (and_then ! (local ! 37 refl) (and_then ! (local ! 13 refl) (no_more !))))) (λ x ws said gx.
         use1 𝓛 (‵ (flft μ p) ⊛ ‵ ftrue) (id⊢ 𝓤 _) $ split ! $ move ! (1 ∷ []) $ drop ! $ move ! (1 ∷ []) $ fsplit ! $ drop ! $ fsplit ! $ drop ! $ fsplit ! $ drop ! $ fsplit ! $ fsplit ! $ move ! (1 ∷ []) $ feq_l ! (λ lf. move ! (1 ∷ []) $ drop ! $ move ! (1 ∷ 0 ∷ []) $
         land ! (from ! (stop !)) (init ! 28 refl (answer_typed 𝓛 x gx)) $
         -- [the message's token; its last bytes; the table; its token; the headers' token; the headers; _19; …]
         use0 𝓛 (raw ((HowFar 𝓛 mem run).pre (to-how-far 𝓛 mem run x))) (asks-how-far 𝓛 mem run x gx) $
-        calls-said counter-moves.ended (counter-moves.clauses 𝓛 mem run) ! fm kh (to-how-far 𝓛 mem run x) (λ k ws. k ≡ counter_moves (answer_of x)) (λ k ws. id⊢ 𝓤 _) (vint w64) (uint_Tells w64) (and_then ! (local ! 29 refl) (no_more !)) (λ far ws' eb gb. drop ! $ drop ! $
+        calls_said counter-moves.ended (counter-moves.clauses 𝓛 mem run) ! fm kh (to-how-far 𝓛 mem run x) (λ k ws. k ≡ counter_moves (answer_of x)) (λ k ws. id⊢ 𝓤 _) (vint w64) (uint_Tells w64) (and_then ! (local ! 29 refl) (no_more !)) (λ far ws' eb gb. drop ! $ drop ! $
         land ! (from ! (stop !)) (init ! 26 refl (tt, record { fits = gb.1 })) $
         -- the table goes to `step`
         reborrows ! refl refl (look_in ! 42 (sub ! 0 refl (whole !))) (init ! 10 refl (tt, tt)) (look ! 10 refl) (look_in ! 42 (sub ! 1 refl (whole !))) (init ! 8 refl (tt, (tt, (record { fits = room.0 }, tt)))) $
-        move ! (3 ∷ 2 ∷ []) $ calls-step mem run κ q b o γ ys ! fm kp i far gi gb.1 (and_then ! (local ! 7 refl) (and_then ! (local ! 31 refl) (and_then ! (local ! 25 refl) (no_more !)))) (λ zs ez lz.
+        move ! (3 ∷ 2 ∷ []) $ calls_step mem run κ q b o γ ys ! fm kp i far gi gb.1 (and_then ! (local ! 7 refl) (and_then ! (local ! 31 refl) (and_then ! (local ! 25 refl) (no_more !)))) (λ zs ez lz.
         land ! (from ! (stop !)) (init ! 12 refl (tt, tt)) $
         -- and the headers to `report`
         assigns ! (addr ! (from ! (hop ! (look ! 34 refl) (stop !)))) (from ! (stop !)) (init ! 6 refl (tt, tt)) $
-        move ! (4 ∷ 5 ∷ []) $ use2 𝓛 (raw ((Reporting 𝓛 mem run).pre (to-report 𝓛 mem run η w hr x))) (asks-report 𝓛 mem run η w hr x gx) $
-        calls-said report.ended (report.clauses 𝓛 mem run) ! fm kr (to-report 𝓛 mem run η w hr x) (λ r ws''. (r ≡ answer_number (answer_of x)) × (ws''.1.0 ≡ carried (answer_of x) h)) (λ r ws''. id⊢ 𝓤 _) (vint w32) (uint_Tells w32) (and_then ! (local ! 27 refl) (and_then ! (local ! 5 refl) (no_more !))) (λ r ws'' told gr.
+        move ! (4 ∷ 5 ∷ []) $ use2 𝓛 (raw ((Reporting 𝓛 mem run).pre (to_report 𝓛 mem run η w hr x))) (asks_report 𝓛 mem run η w hr x gx) $
+        calls_said report.ended (report.clauses 𝓛 mem run) ! fm kr (to_report 𝓛 mem run η w hr x) (λ r ws''. (r ≡ answer_number (answer_of x)) × (ws''.1.0 ≡ carried (answer_of x) h)) (λ r ws''. id⊢ 𝓤 _) (vint w32) (uint_Tells w32) (and_then ! (local ! 27 refl) (and_then ! (local ! 5 refl) (no_more !))) (λ r ws'' told gr.
         use1 𝓛 (‵ (flft η w) ⊛ ‵ ftrue) (id⊢ 𝓤 _) $ split ! $ move ! (1 ∷ []) $ drop ! $ move ! (1 ∷ []) $ fsplit ! $ drop ! $ fsplit ! $ move ! (1 ∷ []) $ drop ! $
         -- [the headers' last number; their token; the table's token; its last list; the message's token; its last bytes; _19; …]
         land ! (from ! (stop !)) (init ! 44 refl (tt, record { fits = gr.1 })) $
         returns ! (look ! 44 refl) $ leaves ! 6 (holds _ ∷ holds _ ∷ holds _ ∷ holds _ ∷ holds _ ∷ holds _ ∷ holds _ ∷ holds _ ∷ holds _ ∷ holds _ ∷ holds _ ∷ holds _ ∷ holds _ ∷ holds _ ∷ holds _ ∷ holds _ ∷ holds _ ∷ holds _ ∷ holds _ ∷ holds _ ∷ []) refl $
         keep ! (2 ∷ 4 ∷ 1 ∷ 3 ∷ 5 ∷ 0 ∷ []) $
-        let all = sealed-says (connection_of c) id ms ys zs ws.1.1.1.0 i far s (answer_of x) e e' (LL.owed T.the_type T'.the_laws s _ gs).1.0.1 said eb (ez ∙ ap (λ (y : Session). set ys i (stepped far y)) (sym e')) in
+        let all = sealed_says (connection_of c) id ms ys zs ws.1.1.1.0 i far s (answer_of x) e e' (LL.owed T.the_type T'.the_laws s _ gs).1.0.1 said eb (ez ∙ ap (λ (y : Session). set ys i (stepped far y)) (sym e')) in
         by ! (exits r zs ws.1.1.1.0 ws''.1.0 gr lz lf
-        (reported-alone (sealing (connection_of c) id) _ _ (answer_of x) all.0 r told.0 h ws''.1.0 told.1, all.1))))))))))))))))))))))))))))))
+        (reported_alone (sealing (connection_of c) id) _ _ (answer_of x) all.0 r told.0 h ws''.1.0 told.1, all.1))))))))))))))))))))))))))))))
 
 seal-meets : {M : Type 1} {𝓤 : Ura M} (𝓛 : Logic 𝓤) (mem : Memory → SProp 𝓤) (run : Routine → Fun 𝓤) (𝓣 : Tables 𝓤 𝓛.H) → Triple 𝓤 (𝓣.C #session-table·find) (Finds 𝓛 mem run) → Triple 𝓤 (𝓣.C #session-table·at) (Gets 𝓛 mem run) → Triple 𝓤 (𝓣.C #session-calls·seal-record) (Seals 𝓛 mem run) → Triple 𝓤 (𝓣.C #session-record·counter-moves) (HowFar 𝓛 mem run) → Triple 𝓤 (𝓣.C #session-table·step) (Moves 𝓛 mem run) → Triple 𝓤 (𝓣.C #answer·report) (Reporting 𝓛 mem run) → Meets 𝓛 seal.signature (WpFn 𝓤 𝓛.H 𝓣.C 𝓣.Λ code.function) (seal.spec 𝓛 mem run)
 seal-meets {𝓤 = 𝓤} 𝓛 mem run 𝓣 kf kg ks kh kp kr =

@@ -1,6 +1,6 @@
 -- Right because the one test is the definition's, and where it fails nothing is touched.
 -- Assumes nothing.
-use Rattle.test_primitives.proofs.Laws.{writes, writes-not, ctr-sized}
+use Rattle.test_primitives.proofs.Laws.{writes, writes_not, ctr_sized}
 use borrow.Author.Rules.{rules}
 use Rattle.test_primitives.proofs.ccm_calls.primitives_ctr.Statement.{statement}
 use Rattle.test_primitives.proofs.ccm_calls.primitives_ctr.Tie as tie
@@ -8,7 +8,7 @@ use Rattle.test_primitives.proofs.ccm_calls.primitives_ctr.Tie as tie
 ctr-sized-requires : tie.Need-ctr-sized-requires
 ctr-sized-requires c κs =
     let a = c.before.before.before.before.before.before.args in
-    ctr-sized a.key.now a.prefix.now a.text.now (rw c.before.before.is-key-length.ensures at c.before.if1.true)
+    ctr_sized a.key.now a.prefix.now a.text.now (rw c.before.before.is-key-length.ensures at c.before.if1.true)
 
 returns : tie.Need-returns
 returns c =
@@ -17,7 +17,7 @@ returns c =
     writes _ _ _ _ t c.before.before.ctr-sized.ensures
 
 returns-2 : tie.Need-returns-2
-returns-2 c = writes-not _ _ _ (rw c.before.is-key-length.ensures at c.if1.false)
+returns-2 c = writes_not _ _ _ (rw c.before.is-key-length.ensures at c.if1.false)
 
 pub primitives-ctr-spec : {M : Type 1} → statement M
 primitives-ctr-spec =

@@ -6,7 +6,7 @@ use borrow.Author.Tests.{eqb-true}
 use lib.Dec.{eqb}
 use lib.ListN.{length}
 use Rattle.octets.proofs.BoolLaws.{and_true}
-use Rattle.test_primitives.proofs.Laws.{writes, writes-not, filled}
+use Rattle.test_primitives.proofs.Laws.{writes, writes_not, filled}
 use borrow.Author.Rules.{rules}
 use Rattle.test_primitives.proofs.cmac_calls.primitives_cmac.Statement.{statement}
 use Rattle.test_primitives.proofs.cmac_calls.primitives_cmac.Tie as tie
@@ -32,7 +32,7 @@ returns c =
     writes _ _ _ _ t.if1.true (filled _ _ _ (l ∙ sym v.type-inv.1.0.1) c.before.before.copy.ensures ∙ v.ensures)
 
 returns-2 : tie.Need-returns-2
-returns-2 c = writes-not _ _ _ c.if1.false
+returns-2 c = writes_not _ _ _ c.if1.false
 
 pub primitives-cmac-spec : {M : Type 1} → statement M
 primitives-cmac-spec =

@@ -1,6 +1,6 @@
 -- Right because the one test is the definition's, and where it fails nothing is touched.
 -- Assumes nothing.
-use Rattle.test_primitives.proofs.Laws.{seals, seals-not, gcm-sized}
+use Rattle.test_primitives.proofs.Laws.{seals, seals-not, gcm_sized}
 use borrow.Author.Rules.{rules}
 use Rattle.test_primitives.proofs.gcm_calls.primitives_gcm_seal.Statement.{statement}
 use Rattle.test_primitives.proofs.gcm_calls.primitives_gcm_seal.Tie as tie
@@ -9,7 +9,7 @@ seal-sized-requires : tie.Need-seal-sized-requires
 seal-sized-requires c κs =
     let a = c.before.before.before.before.before.before.before.before.before.args in
     let t = rw c.before.before.before.is-key-length.ensures at c.before.before.if1.true in
-    gcm-sized a.key.now a.nonce.now a.text.now a.aad.now a.tag.now t
+    gcm_sized a.key.now a.nonce.now a.text.now a.aad.now a.tag.now t
 
 returns : tie.Need-returns
 returns c =

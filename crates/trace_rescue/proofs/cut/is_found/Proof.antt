@@ -5,7 +5,7 @@ use native.Mathlib.Omega.{arith}
 use Rattle.trace_reader.specs.Answers.{reading_of}
 use Rattle.trace_format.specs.Format.{edition_of}
 use Rattle.trace_format.proofs.FormatLaws.{was}
-use Rattle.trace_rescue.proofs.CutLaws.{was-not, not_found, judged}
+use Rattle.trace_rescue.proofs.CutLaws.{was_not, not_found, judged}
 use borrow.Author.Rules.{rules}
 use Rattle.trace_rescue.proofs.cut.is_found.Statement.{statement}
 use Rattle.trace_rescue.proofs.cut.is_found.Tie as tie
@@ -15,7 +15,7 @@ returns c =
     let a = c.before.before.before.args in
     let e = edition_of a.edition in
     let f = a.file.now in
-    not_found e f a.at (was-not e f a.at c.before.read-record.result c.before.read-record.ensures c.match.keys2)
+    not_found e f a.at (was_not e f a.at c.before.read-record.result c.before.read-record.ensures c.match.keys2)
 
 sub-begins-message : tie.Need-overflow-sub-begins-message
 sub-begins-message c =

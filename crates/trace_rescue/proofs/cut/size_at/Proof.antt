@@ -5,7 +5,7 @@ use native.Mathlib.Omega.{arith}
 use Rattle.trace_reader.specs.Answers.{reading_of}
 use Rattle.trace_format.specs.Format.{edition_of}
 use Rattle.trace_format.proofs.FormatLaws.{was}
-use Rattle.trace_rescue.proofs.CutLaws.{was-not, the_size, no_size}
+use Rattle.trace_rescue.proofs.CutLaws.{was_not, the_size, no_size}
 use borrow.Author.Rules.{rules}
 use Rattle.trace_rescue.proofs.cut.size_at.Statement.{statement}
 use Rattle.trace_rescue.proofs.cut.size_at.Tie as tie
@@ -15,7 +15,7 @@ returns c =
     let a = c.before.before.before.args in
     let e = edition_of a.edition in
     let f = a.file.now in
-    no_size e f a.at (was-not e f a.at c.before.read-record.result c.before.read-record.ensures c.match.keys2)
+    no_size e f a.at (was_not e f a.at c.before.read-record.result c.before.read-record.ensures c.match.keys2)
 
 add-result : tie.Need-overflow-add-result
 add-result c =

@@ -4,7 +4,7 @@ use borrow.Author.Rules.{rules}
 use borrow.Author.Tests.{not-true, not-false}
 use Rattle.compound.specs.Reading.{envelope_of}
 use Rattle.transform_header.specs.Reading.{header_from}
-use Rattle.transform.proofs.Opening.{tag-wrong, restored, opened}
+use Rattle.transform.proofs.Opening.{tag_wrong, restored, opened}
 use Rattle.transform.proofs.body.open_body.Statement.{statement}
 use Rattle.transform.proofs.body.open_body.Tie as tie
 
@@ -13,7 +13,7 @@ returns c =
     let c5 = c.before.before.before.before.before in
     let c10 = c5.before.before.before.before.before in
     let a = c10.args in
-    tag-wrong a.cipher a.key.now (header_from a.h) (envelope_of a.e) a.text.now _ _ c.before.before.before.«open».ensures
+    tag_wrong a.cipher a.key.now (header_from a.h) (envelope_of a.e) a.text.now _ _ c.before.before.before.«open».ensures
     (not-true _ c.if1.true)
 
 returns-2 : tie.Need-returns-2

@@ -1,6 +1,6 @@
 -- Right because the mode that the number names promises it (ByNumber).
 use borrow.Author.Rules.{rules}
-use Rattle.transform.proofs.ByNumber.{gcm-opened, ccm-opened}
+use Rattle.transform.proofs.ByNumber.{gcm_opened, ccm_opened}
 use Rattle.transform.proofs.cipher.open.Statement.{statement}
 use Rattle.transform.proofs.cipher.open.Tie as tie
 
@@ -9,7 +9,7 @@ returns c =
     let nonce = c.before.before.before.before.before in
     let two = nonce.before.before in
     let a = two.before.before.before.before.args in
-    gcm-opened a.cipher a.key.now a.t3 a.t4 _ _ two.before.is-gcm.ensures two.if1.true nonce.bytes-12.ensures _ _ _ _
+    gcm_opened a.cipher a.key.now a.t3 a.t4 _ _ two.before.is-gcm.ensures two.if1.true nonce.bytes-12.ensures _ _ _ _
     c.before.before.«open».ensures
 
 returns-2 : tie.Need-returns-2
@@ -17,7 +17,7 @@ returns-2 c =
     let nonce = c.before.before.before.before in
     let two = nonce.before.before in
     let a = two.before.before.before.before.args in
-    ccm-opened a.cipher a.key.now a.t3 a.t4 _ _ two.before.is-gcm.ensures two.if1.false nonce.bytes-11.ensures _ _ _ _
+    ccm_opened a.cipher a.key.now a.t3 a.t4 _ _ two.before.is-gcm.ensures two.if1.false nonce.bytes-11.ensures _ _ _ _
     c.before.before.open2.ensures
 
 pub open_spec : {M : Type 1} → statement M
