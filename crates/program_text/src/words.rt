@@ -9,7 +9,7 @@ use crate::lines::put;
 pub fn asks_help(word: &[u8]) -> bool
     ensures { result ≡ asks_help word.now }
 {
-    word == b"--help".as_slice() || word == b"-h".as_slice()
+    (word == b"--help".as_slice()) | (word == b"-h".as_slice())
 }
 
 pub fn asks_version(word: &[u8]) -> bool
