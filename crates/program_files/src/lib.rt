@@ -5,8 +5,17 @@
 ghost use Rattle.std.specs.Prelude.{◌≤◌, length, IfOk};
 ghost use Rattle.program_files.specs.Reads.{ReadsBehind, Gathers};
 
-use std::io;
+use std::env::{Env, FillError};
+use std::fs::{OpenFile, OpenOptions};
 use std::io::{Cursor, ErrorKind, Print, Read, Write};
+use std::os::unix::fs::OpenOptionsExt;
+use std::rt::Files;
+use std::{fs, io, str};
+
+// The system's numbers of two errors: a name that is too long, and bytes that are no text.
+pub const NAME_TOO_LONG: i32 = 36;
+
+const NO_TEXT: i32 = 84;
 
 // Reads once behind the window's first `have` bytes: how many came, none at the end of the file. A window without room counts as a read
 // that failed, and not as the end.
@@ -101,4 +110,68 @@ pub fn say(to: &impl Print, program: &[u8], words: &[u8]) {
     let _ = to.write_all(b": ");
     let _ = to.write_all(words);
     let _ = to.write_all(b"\n");
+}
+
+// ---- arguments and names
+
+// Whether the program was started with an argument of this number; 0 is its own name.
+pub fn has_argument(env: &impl Env, i: usize) -> bool {
+    let mut none = [0u8; 1];
+    !matches!(env.arg(i, &mut none), Err(FillError::NotPresent))
+}
+
+// An argument, put at the start of the room: how many bytes it has. One that is not there is the error of a file that is not there.
+pub fn argument(env: &impl Env, i: usize, room: &mut [u8]) -> io::Result<usize>
+    ensures { IfOk result (λ n. n ≤ length room.new) }
+{
+    match env.arg(i, room) {
+        Ok(n) => Ok(n),
+        Err(FillError::TooLong) => Err(io::Error::from_raw_os_error(NAME_TOO_LONG)),
+        Err(FillError::NotPresent) => Err(io::Error::from(ErrorKind::NotFound)),
+    }
+}
+
+// A name as the library takes it: one that is not UTF-8 names no file.
+fn text_of(name: &[u8]) -> io::Result<&str> {
+    match str::from_utf8(name) {
+        Ok(text) => Ok(text),
+        Err(_) => Err(io::Error::from_raw_os_error(NO_TEXT)),
+    }
+}
+
+// ---- files by their names
+
+pub fn open<R: Files>(files: &R, name: &[u8]) -> io::Result<R::File> {
+    fs::open(files, text_of(name)?)
+}
+
+// A new file that may be read by whom the process's mask lets; where the name is taken, an error.
+pub fn create<R: Files>(files: &R, name: &[u8]) -> io::Result<R::File> {
+    OpenOptions::new()
+        .write(true)
+        .create_new(true)
+        .open(files, text_of(name)?)
+}
+
+// The same, but nobody other than its owner may read it, at no time.
+pub fn create_private<R: Files>(files: &R, name: &[u8]) -> io::Result<R::File> {
+    OpenOptions::new()
+        .write(true)
+        .create_new(true)
+        .mode(0o600)
+        .open(files, text_of(name)?)
+}
+
+// Writes the bytes to a file, and closes it. They are given to the disk before, since nobody is told of an error that comes with the close.
+pub fn fill<F: Write + OpenFile + Drop>(mut file: F, bytes: &[u8]) -> io::Result<()> {
+    file.write_all(bytes)?;
+    file.sync_all()
+}
+
+pub fn rename(files: &impl Files, from: &[u8], to: &[u8]) -> io::Result<()> {
+    fs::rename(files, text_of(from)?, text_of(to)?)
+}
+
+pub fn remove(files: &impl Files, name: &[u8]) -> io::Result<()> {
+    fs::remove_file(files, text_of(name)?)
 }

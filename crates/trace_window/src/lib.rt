@@ -7,7 +7,6 @@ ghost use Rattle.trace_format.specs.Format.{edition_of, read_head};
 ghost use Rattle.trace_window.specs.Window as window;
 
 use program_text::{behind, front};
-use std::num::{wrapping_add_u64, wrapping_add_usize};
 use trace_reader::{Head, read_head};
 
 // The longest payload that is held.
@@ -18,7 +17,7 @@ pub const WINDOW: usize = 65540;
 
 // The window's first `have` bytes are the file's, and the record at hand begins at `at`. Of one that is not held, of `size` bytes, `left` are
 // still to be passed over; else both are 0. Its place in the file and its index are those of its line.
-#[derive(Drop)]
+#[derive(Clone, Copy)]
 pub struct Cursor {
     pub at: usize,
     pub have: usize,
@@ -29,7 +28,7 @@ pub struct Cursor {
     pub index: u64,
 }
 
-#[derive(Drop)]
+#[derive(Clone, Copy)]
 pub enum Step {
     // The record at hand is in the window, or all that is left of the file.
     Turn,
@@ -122,7 +121,7 @@ fn passed(c: Cursor) -> Cursor
 pub fn begun(c: Cursor, n: usize) -> Cursor
     ensures { result ≡ window.begun n c }
 {
-    let size = wrapping_add_usize(4, n);
+    let size = 4usize.wrapping_add(n);
     passed(Cursor {
         at: c.at,
         have: c.have,
@@ -153,7 +152,7 @@ pub fn took(c: Cursor, m: usize, n: usize) -> Cursor
 {
     passed(Cursor {
         at: 0,
-        have: wrapping_add_usize(m, n),
+        have: m.wrapping_add(n),
         left: c.left,
         size: c.size,
         ended: n == 0,
@@ -172,8 +171,8 @@ fn behind_record(c: Cursor, n: usize, q: usize) -> Cursor
         left: 0,
         size: 0,
         ended: c.ended,
-        place: wrapping_add_u64(c.place, n as u64),
-        index: wrapping_add_u64(c.index, 1),
+        place: c.place.wrapping_add(n as u64),
+        index: c.index.wrapping_add(1),
     }
 }
 
