@@ -72,9 +72,9 @@ rows_drop (suc n) i l rest h =
     ap (λ (r : List (List ℕ)). get_or l i [] ∷ r) (rows_drop n (suc i) l rest (omega arith))
     ∙ ap (λ (r : List (List ℕ)). r ++ rest) (sym (drop-cons l i [] (omega arith)))
 
-pub eleven_in_fifteen : (k : List (List ℕ)) → length k ≡ 11 → rows 11 0 k (replicate 4 (replicate 16 0)) ≡ fifteen k
+pub eleven_in-fifteen : (k : List (List ℕ)) → length k ≡ 11 → rows 11 0 k (replicate 4 (replicate 16 0)) ≡ fifteen k
 unfolding fifteen
-eleven_in_fifteen k h = rows_drop 11 0 k _ (sym h) ∙ ap (λ (n : ℕ). k ++ replicate (15 - n) (replicate 16 0)) (sym h)
+eleven_in-fifteen k h = rows_drop 11 0 k _ (sym h) ∙ ap (λ (n : ℕ). k ++ replicate (15 - n) (replicate 16 0)) (sym h)
 
 -- ____ a key of each size
 

@@ -109,14 +109,14 @@ expanded nk nr key ks rows m =
 
 -- ____ a key of four words
 
-pub first_4 : (key : List ℕ) → length key ≡ 16 → Made 4 0 key (key ∷ [])
+pub first-4 : (key : List ℕ) → length key ≡ 16 → Made 4 0 key (key ∷ [])
 unfolding words key_words
-first_4 key h = record { are = refl; each = cons (joined-whole key h) refl }
+first-4 key h = record { are = refl; each = cons (joined-whole key h) refl }
 
-pub next_4 : (n c : ℕ) {key k r : List ℕ} {ks : List (List ℕ)} → n % 4 ≡ 0 → xpower (n / 4) ≡ c → r ≡ next_key k (at_multiple k c)
+pub next-4 : (n c : ℕ) {key k r : List ℕ} {ks : List (List ℕ)} → n % 4 ≡ 0 → xpower (n / 4) ≡ c → r ≡ next_key k (at_multiple k c)
     → Made 4 n key (k ∷ ks) → Made 4 (suc (suc (suc (suc n)))) key (r ∷ k ∷ ks)
 unfolding at_multiple
-next_4 n c {key} {k} {r} {ks} h x e m =
+next-4 n c {key} {k} {r} {ks} h x e m =
     let i : (4 + n) / 4 - 1 ≡ n / 4 = omega arith in
     let z : (4 + n) % 4 ≡ 0 = omega arith in
     let t = temp_multiple 4 (4 + n) c _ z (ap xpower i ∙ x) in
@@ -124,14 +124,14 @@ next_4 n c {key} {k} {r} {ks} h x e m =
 
 -- ____ a key of eight words
 
-words_of_halves : (k l : List ℕ) → words 8 0 (joined k ++ l) ≡ all_words (l ∷ k ∷ [])
+words-of_halves : (k l : List ℕ) → words 8 0 (joined k ++ l) ≡ all_words (l ∷ k ∷ [])
 unfolding words key_words word_of
-words_of_halves k l = refl
+words-of_halves k l = refl
 
 pub first_8 : (k l : List ℕ) → length k ≡ 16 → length l ≡ 16 → Made 8 0 (k ++ l) (l ∷ k ∷ [])
 first_8 k l hk hl =
     record {
-      are = ap (λ (x : List ℕ). words 8 0 (x ++ l)) (sym (joined-whole k hk)) ∙ words_of_halves k l;
+      are = ap (λ (x : List ℕ). words 8 0 (x ++ l)) (sym (joined-whole k hk)) ∙ words-of_halves k l;
       each = cons (joined-whole l hl) (cons (joined-whole k hk) refl);
     }
 

@@ -14,11 +14,11 @@ unfolding cipher
 ciphered nr r i w block f s m l e er ei = cc
 
 -- round r, from what the rounds before it made
-pub one_round : (r : ℕ) (w : List (List ℕ)) (start : List ℕ) {before key after : List ℕ} → 0 < r → before ≡ rounds (r - 1) w start → key ≡ get_or w r []
+pub one-round : (r : ℕ) (w : List (List ℕ)) (start : List ℕ) {before key after : List ℕ} → 0 < r → before ≡ rounds (r - 1) w start → key ≡ get_or w r []
     → after ≡ add_round_key (mix_columns (shift_rows (sub_bytes before))) key → after ≡ rounds (r + 1 - 1) w start
 unfolding rounds
-one_round zero w start h b k e = absurd (omega arith)
-one_round (suc r) w start h b k e =
+one-round zero w start h b k e = absurd (omega arith)
+one-round (suc r) w start h b k e =
     let prior : suc r - 1 ≡ r = omega arith in
     let next : suc r ≡ suc r + 1 - 1 = omega arith in
     let before = b ∙ ap (λ (n : ℕ). rounds n w start) prior in

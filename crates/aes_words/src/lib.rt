@@ -5,7 +5,7 @@ ghost use Rattle.std.specs.Prelude.{◌≡◌, ◌++◌, ◌+◌, ◌≤◌, len
 ghost use Rattle.octets.specs.Numbers.{to_big_endian};
 ghost use Rattle.aes_words.specs.Words.{Bytes, WordAt, state_of, byte0, byte1, byte2, byte3};
 
-#[derive(Drop)]
+#[derive(Clone, Copy)]
 pub struct Columns {
     pub c0: u32,
     pub c1: u32,

@@ -6,7 +6,7 @@ ghost use Rattle.protocol.specs.Answer.{answer_number, is_refused, carried};
 ghost use Rattle.answer.specs.Reading.{answer_of, marked};
 
 // Done, with the number of inner headers visited or with what else the call has to say; or refused, with the number of RULES 2.
-#[derive(Drop)]
+#[derive(Clone, Copy)]
 pub enum Answer {
     Done(u64),
     Refused(u32),

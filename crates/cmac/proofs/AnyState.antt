@@ -18,9 +18,9 @@ use Rattle.cmac.specs.declared.Mac.{Mac}
 use Rattle.cmac.specs.Running.{waiting, room, within, beyond, updated, finished, Holds}
 use Rattle.cmac.proofs.Streaming.{chain-front, recounted, running_within, running_beyond, running_end}
 
-same_state : {c c' b b' : List ℕ} {f f' : ℕ} → c ≡ c' → b ≡ b' → f ≡ f'
+same-state : {c c' b b' : List ℕ} {f f' : ℕ} → c ≡ c' → b ≡ b' → f ≡ f'
     → ◌≡◌ {A = Mac} (record { chain = c; buffer = b; filled = f }) (record { chain = c'; buffer = b'; filled = f' })
-same_state ec eb ef = λ i. record { chain = ec i; buffer = eb i; filled = ef i }
+same-state ec eb ef = λ i. record { chain = ec i; buffer = eb i; filled = ef i }
 
 module _ (E : List ℕ → List ℕ) (s : Mac) where
   -- ____ by the way that the code takes, where n bytes wait
@@ -35,7 +35,7 @@ module _ (E : List ℕ → List ℕ) (s : Mac) where
 
     within_now : Within (waiting s)
     unfolding updated within
-    within_now buffer' fits eb = same_state refl eb refl ∙ sym (ap updated_if (le-leb (length x) (room s) fits))
+    within_now buffer' fits eb = same-state refl eb refl ∙ sym (ap updated_if (le-leb (length x) (room s) fits))
 
     pub updated-within : (n : ℕ) → n ≡ waiting s → Within n
     updated-within n e = subst Within (sym e) within_now
@@ -86,7 +86,7 @@ module _ (E : List ℕ → List ℕ) (s : Mac) where
         ∙ ap (λ (l : List ℕ). cbc_mac E (cbc_mac E s.chain block 1) l (blocks_before (length l))) d₂ in
         let b₂ = e₂ ∙ ap₂ (λ (b l : List ℕ). paste b 0 l (length l)) e₁ d₃ in
         let f₂ : length x₂ - w ≡ length (drop (blocks_before (length rest) * 16) rest) = sym (length-drop w x₂) ∙ ap length (sym (part_all x₂ w) ∙ d₃) in
-        same_state c₂ b₂ f₂ ∙ sym (ap updated_if (lt-leb (length x) (room s) passes))
+        same-state c₂ b₂ f₂ ∙ sym (ap updated_if (lt-leb (length x) (room s) passes))
 
     pub updated-beyond : (n : ℕ) → n ≡ waiting s → Beyond n
     updated-beyond n e = subst Beyond (sym e) beyond_now
@@ -122,13 +122,13 @@ module _ (E : List ℕ → List ℕ) (s : Mac) (m x : List ℕ) (h : Holds s E m
   updated-holds = held (leb (length x) (room s)) refl
 
 -- the same of what the code hands back
-pub takes_in : {E : List ℕ → List ℕ} (s : Mac) (x : List ℕ) {s' : Mac} {m : List ℕ} → s' ≡ updated E s x → Holds s E m → Holds s' E (m ++ x)
-takes_in {E} s x {s'} {m} e h = subst (λ (t : Mac). Holds t E (m ++ x)) (sym e) (updated-holds E s m x h)
+pub takes-in : {E : List ℕ → List ℕ} (s : Mac) (x : List ℕ) {s' : Mac} {m : List ℕ} → s' ≡ updated E s x → Holds s E m → Holds s' E (m ++ x)
+takes-in {E} s x {s'} {m} e h = subst (λ (t : Mac). Holds t E (m ++ x)) (sym e) (updated-holds E s m x h)
 
 -- and it ends
-pub finished_is : (E : List ℕ → List ℕ) (s : Mac) (m : List ℕ) → Holds s E m → finished E s ≡ cmac E m
+pub finished-is : (E : List ℕ → List ℕ) (s : Mac) (m : List ℕ) → Holds s E m → finished E s ≡ cmac E m
 unfolding finished
-finished_is E s m h = running_end E (recounted E (waiting s) refl h) _ refl
+finished-is E s m h = running_end E (recounted E (waiting s) refl h) _ refl
 
 pub ends_with : {E : List ℕ → List ℕ} (s : Mac) {m r : List ℕ} → r ≡ finished E s → Holds s E m → r ≡ cmac E m
-ends_with {E} s {m} e h = e ∙ finished_is E s m h
+ends_with {E} s {m} e h = e ∙ finished-is E s m h

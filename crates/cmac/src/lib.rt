@@ -17,7 +17,7 @@ use runs::copy;
 // A code under way: the chain over the blocks before the last, and the last one, of which so many bytes are there. The round keys and the
 // table of the cipher are lent to each call.
 #[repr(C)]
-#[derive(Drop)]
+#[derive(Clone, Copy)]
 pub struct Mac {
     chain: [u8; 16],
     buffer: [u8; 16],

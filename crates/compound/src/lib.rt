@@ -14,7 +14,7 @@ use header::next_command;
 use rules::{first_number, next_number};
 
 // What is known of an inner message from outside: the id of the session that it is sealed for, and whether it comes from the server.
-#[derive(Drop)]
+#[derive(Clone, Copy)]
 pub struct Envelope {
     pub id: u64,
     pub from_server: bool,

@@ -15,7 +15,7 @@ pub const SERVER: u8 = 1;
 
 // struct smb3seal_connection: any bytes are a connection. A role above 1 or a spare byte other than 0 means that nothing was agreed.
 #[repr(C)]
-#[derive(Drop)]
+#[derive(Clone, Copy)]
 pub struct Connection {
     pub dialect: u16,
     pub cipher: u16,

@@ -64,9 +64,9 @@ module _ (sha512 : Bytes → Bytes) where
         one-hashed = f c.one c.one-hashed;
         other-hashed = f c.other c.other-hashed;
         different = c.different;
-        same_hash = c.same-hash;
+        same-hash = c.same-hash;
       })
-  found-more f (inr z) = inr (record { string = z.string; hashed = f z.string z.hashed; zero_hash = z.zero-hash })
+  found-more f (inr z) = inr (record { string = z.string; hashed = f z.string z.hashed; zero-hash = z.zero-hash })
 
   module _ (size : (s : Bytes) → length (sha512 s) ≡ 64) where
     pub over-length : (v : Bytes) (ms : List Bytes) → length v ≡ 64 → length (over v ms) ≡ 64
@@ -92,8 +92,8 @@ module _ (sha512 : Bytes → Bytes) where
     agree : (a b : List Bytes) → value a ≡ value b → (a ≡ b) ⊎ Found (strings a ++ strings b)
     unfolding value strings
     agree [] [] e = inl refl
-    agree [] (n ∷ b) e = inr (inr (record { string = value b ++ n; hashed = Memᴰ.head refl; zero_hash = sym e }))
-    agree (m ∷ a) [] e = inr (inr (record { string = value a ++ m; hashed = Memᴰ.head refl; zero_hash = e }))
+    agree [] (n ∷ b) e = inr (inr (record { string = value b ++ n; hashed = Memᴰ.head refl; zero-hash = sym e }))
+    agree (m ∷ a) [] e = inr (inr (record { string = value a ++ m; hashed = Memᴰ.head refl; zero-hash = e }))
     agree (m ∷ a) (n ∷ b) e = decide (List-discrete ℕ_discrete (value a ++ m) (value b ++ n)) (agree a b)
       where
         x : Bytes
@@ -123,7 +123,7 @@ module _ (sha512 : Bytes → Bytes) where
               one-hashed = Memᴰ.head refl;
               other-hashed = Memᴰ.append_right (x ∷ strings a) (Memᴰ.head refl);
               different = d;
-              same_hash = e;
+              same-hash = e;
             }))
 
     -- ____ the first message comes first

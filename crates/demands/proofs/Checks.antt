@@ -225,8 +225,8 @@ module _ (c : Connection) (m : Bytes) (s : Session) (n : ℕ) where
         header = header_says c m (at 1) (at 2) (at 3) (at 4) (at 5) (at 29);
         known = not-false s.used (at 6);
         unconstrained = at 7;
-        not_guest = g.0;
-        not_anonymous = g.1;
+        not-guest = g.0;
+        not-anonymous = g.1;
         same_size = eqb-true (cipher_key_bytes s.wide) (cipher_key_bytes (uses_wide c)) (not-false _ (at 35));
         text = get_or (plaintext suite c m s) [];
         carried = carried_says (cipher_used c) (opening_key c.role s.keys) m (at 9) (at 10);

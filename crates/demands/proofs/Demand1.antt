@@ -48,9 +48,9 @@ module _ (P : Primitives) where
   mark-zero false e = refl
 
   module _ (kind : FoldKind) (m : Bytes) (w : Lent) where
-    not_folded : answer P (folding kind m) w ≡ done 0 → None (tests P (folding kind m) w).before × (status_allows kind m ≡ false)
+    not-folded : answer P (folding kind m) w ≡ done 0 → None (tests P (folding kind m) w).before × (status_allows kind m ≡ false)
     unfolding tests
-    not_folded e =
+    not-folded e =
         let p = passes_of (tests P (folding kind m) w) 0 e in
         (p.lines, mark-zero (status_allows kind m) p.visits)
 
@@ -58,11 +58,11 @@ module _ (P : Primitives) where
     unfolding tests
     folded-not h s = done-of (tests P (folding kind m) w) 0 (record { lines = h; visits = ap (λ (b : Bool). cond b 1 0) s; later-lines = no_line })
 
-    not_folded-leaves : answer P (folding kind m) w ≡ done 0 → left P (folding kind m) w ≡ w
+    not-folded-leaves : answer P (folding kind m) w ≡ done 0 → left P (folding kind m) w ≡ w
     unfolding effect
-    not_folded-leaves e =
+    not-folded-leaves e =
         left-done P (folding kind m) w 0 e
-        ∙ ap (λ (b : Bool). with_chain (cond b (P.sha512 (w.chain ++ m)) w.chain) w) (not_folded e).1
+        ∙ ap (λ (b : Bool). with_chain (cond b (P.sha512 (w.chain ++ m)) w.chain) w) (not-folded e).1
 
   pub holds_of : Demand1 P
   holds_of =
@@ -73,8 +73,8 @@ module _ (P : Primitives) where
         answers = λ c w. answers_of (tests P c w);
         unchanged = left-refused P;
         headers = λ a n h e. ap (λ (x : Answer). carried x h) e;
-        not_folded = λ kind m w. (not_folded kind m w, λ h. folded-not kind m w h.0 h.1);
-        not_folded-leaves = not_folded-leaves;
+        not-folded = λ kind m w. (not-folded kind m w, λ h. folded-not kind m w h.0 h.1);
+        not-folded-leaves = not-folded-leaves;
       }
 
 pub demand1 : Demand1 suite

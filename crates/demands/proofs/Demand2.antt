@@ -20,7 +20,7 @@ use Rattle.protocol.specs.Transform.{plaintext_under}
 use Rattle.protocol.specs.Calls.{derivation, folding, sealing_under, opening_under, signing_under, adding, sealing, opening}
 use Rattle.protocol.specs.Calls.{Lent, with_message, with_chain, open_tests, tests, effect, answer, left}
 use Rattle.protocol.specs.Suite.{suite, sha512, kdf, ciphers}
-use Rattle.protocol.proofs.SuiteLaws.{sha512_is, kdf_of_document, cmac_is}
+use Rattle.protocol.proofs.SuiteLaws.{sha512-is, kdf-of_document, cmac-is}
 use Rattle.demands.specs.Lines.{no_line}
 use Rattle.demands.specs.Opening.{Carries, OpensUnderKey, OpensWithRecord}
 use Rattle.demands.specs.Demand2.{key_from, KeysOfPapers, ChainOfPapers, CiphersOfPapers, SealedOfPapers, record_named, opened_with, OpenedOfPapers}
@@ -39,10 +39,10 @@ of_311 wide chain material =
     let cipher-key = cipher_material wide material in
     λ i.
     record {
-      signing = kdf_of_document false key smb_signing_key chain i;
-      application = kdf_of_document false key smb_app_key chain i;
-      client_to_server = kdf_of_document wide cipher-key smb_c2_s_cipher_key chain i;
-      server_to_client = kdf_of_document wide cipher-key smb_s2_c_cipher_key chain i;
+      signing = kdf-of_document false key smb_signing_key chain i;
+      application = kdf-of_document false key smb_app_key chain i;
+      client_to_server = kdf-of_document wide cipher-key smb_c2_s_cipher_key chain i;
+      server_to_client = kdf-of_document wide cipher-key smb_s2_c_cipher_key chain i;
     }
 
 of_300 : (material : Bytes) → keys300 kdf material ≡ keys300 key_from material
@@ -50,15 +50,15 @@ of_300 material =
     let key = session_key material in
     λ i.
     record {
-      signing = kdf_of_document false key smb2_aes_cmac smb_sign i;
-      application = kdf_of_document false key smb2_app smb_rpc i;
-      client_to_server = kdf_of_document false key smb2_aes_ccm server_in i;
-      server_to_client = kdf_of_document false key smb2_aes_ccm server_out i;
+      signing = kdf-of_document false key smb2_aes_cmac smb_sign i;
+      application = kdf-of_document false key smb2_app smb_rpc i;
+      client_to_server = kdf-of_document false key smb2_aes_ccm server_in i;
+      server_to_client = kdf-of_document false key smb2_aes_ccm server_out i;
     }
 
-keys_of_papers : KeysOfPapers
+keys-of_papers : KeysOfPapers
 unfolding derived_keys effect
-keys_of_papers =
+keys-of_papers =
     record {
       session_key_is = λ material. padded_then_cut 16 16 material (lit≤ tt);
       keys_311 = λ cipher chain material. of_311 (is_wide 0x0311 cipher) chain material;
@@ -75,22 +75,22 @@ mark-one : (b : Bool) → ◌≡◌ {A = ℕ} (cond b 1 0) 1 → b ≡ true
 mark-one true e = refl
 mark-one false e = absurd (omega arith)
 
-folded_in : (kind : FoldKind) (m : Bytes) (w : Lent) → answer suite (folding kind m) w ≡ done 1
+folded-in : (kind : FoldKind) (m : Bytes) (w : Lent) → answer suite (folding kind m) w ≡ done 1
     → left suite (folding kind m) w ≡ with_chain (sha512 (w.chain ++ m)) w
 unfolding tests effect
-folded_in kind m w e =
+folded-in kind m w e =
     left-done suite (folding kind m) w 1 e
     ∙ ap (λ (b : Bool). with_chain (cond b (sha512 (w.chain ++ m)) w.chain) w)
     (mark-one (status_allows kind m) (passes_of (tests suite (folding kind m) w) 1 e).visits)
 
-chain_of_papers : ChainOfPapers
-chain_of_papers = record { folded = λ kind m w e. folded_in kind m w e ∙ ap (λ (v : Bytes). with_chain v w) (sha512_is (w.chain ++ m)) }
+chain-of_papers : ChainOfPapers
+chain-of_papers = record { folded = λ kind m w e. folded-in kind m w e ∙ ap (λ (v : Bytes). with_chain v w) (sha512-is (w.chain ++ m)) }
 
 -- ____ the ciphers, and sealing
 
-ciphers_of_papers : (key nonce auth text : Bytes) → CiphersOfPapers key nonce auth text
+ciphers-of_papers : (key nonce auth text : Bytes) → CiphersOfPapers key nonce auth text
 unfolding suite cipher_of
-ciphers_of_papers key nonce auth text =
+ciphers-of_papers key nonce auth text =
     record {
       ccm_ciphertext = λ cipher e. ap (λ (b : Bool). (cond b aes_gcm aes_ccm).encrypt key nonce auth text) e;
       ccm_tag = λ cipher e. ap (λ (b : Bool). (cond b aes_gcm aes_ccm).tag key nonce auth text) e;
@@ -98,9 +98,9 @@ ciphers_of_papers key nonce auth text =
       gcm_tag = λ cipher e. ap (λ (b : Bool). (cond b aes_gcm aes_ccm).tag key nonce auth text) e;
     }
 
-sealed_of_papers : SealedOfPapers
+sealed-of_papers : SealedOfPapers
 unfolding effect
-sealed_of_papers = record { under_one_key = λ c key id. left-done suite (sealing_under c key id); with_a_table = λ c id. left-done suite (sealing c id) }
+sealed-of_papers = record { under_one_key = λ c key id. left-done suite (sealing_under c key id); with_a_table = λ c id. left-done suite (sealing c id) }
 
 -- ____ opening under one key
 
@@ -157,21 +157,21 @@ one-text cipher key m text text' a b =
     let q = carried-text cipher key m text' b in
     cc
 
-opened_of_papers : OpenedOfPapers
-opened_of_papers =
+opened-of_papers : OpenedOfPapers
+opened-of_papers =
     record {
       under_one_key = λ c key id w n. (opens_key c key id w n, key_opens c key id w n);
       with_a_table = λ c w n. (opens-table c w n, table-opens c w n);
       one-text = one-text;
       text_under_key = key_left;
-      text_with_table = table-left;
+      text-with-table = table-left;
     }
 
-signed_of_papers : SignedOfPapers
+signed-of_papers : SignedOfPapers
 unfolding effect
-signed_of_papers =
+signed-of_papers =
     record {
-      aes-cmac = cmac_is;
+      aes-cmac = cmac-is;
       signs = λ key w n. (signs key w n, signs_if key w n);
       bytes = λ key. left-done suite (signing_under key);
       verifies = λ key w n. (verifies key w n, verifies_if key w n);
@@ -180,10 +180,10 @@ signed_of_papers =
 pub demand2 : Demand2
 demand2 =
     record {
-      keys = keys_of_papers;
-      chain = chain_of_papers;
-      enciphered = ciphers_of_papers;
-      sealed = sealed_of_papers;
-      opened = opened_of_papers;
-      signed = signed_of_papers;
+      keys = keys-of_papers;
+      chain = chain-of_papers;
+      enciphered = ciphers-of_papers;
+      sealed = sealed-of_papers;
+      opened = opened-of_papers;
+      signed = signed-of_papers;
     }

@@ -34,7 +34,7 @@ module _ (P : Primitives) (sound : Sound P) (e : Ends) (h : Premises P e) where
 
   same-chain : session_chain P (e.chain_steps client) ≡ session_chain P (e.chain_steps server)
   same-chain =
-      same-value P sound.hash-length (e.chain_steps client) (e.chain_steps server) (h.in_order client) (h.in_order server) h.same-messages
+      same-value P sound.hash-length (e.chain_steps client) (e.chain_steps server) (h.in_order client) (h.in_order server) h.same_messages
 
   abbrev bytes : ℕ
   bytes = cipher_key_bytes (is_wide 0x0311 e.cipher)
@@ -54,7 +54,7 @@ module _ (P : Primitives) (sound : Sound P) (e : Ends) (h : Premises P e) where
   kept_at r x x-in =
       let a = session_added P e r in
       let w = only_table (e.table_before r) in
-      let success = h.added-with-success r in
+      let success = h.added-with_success r in
       (follows_all P e.id (e.steps r) _ (h.kept r) (added_present P a w 0 success) x x-in).same ∙ ap held (added_record P a w 0 success)
 
   -- however m was sealed, it was under the session's key at that end

@@ -140,8 +140,8 @@ request_goes_across =
     demand3.sessions (ends suite) (premises suite) client (message_of client) (sealed suite client) 1 (seals suite client) (received suite server)
     (lent-to_open suite server)
 
-pub break_notice_goes_across : Opened suite client
-break_notice_goes_across =
+pub break_notice-goes_across : Opened suite client
+break_notice-goes_across =
     demand3.sessions (ends suite) (premises suite) server (message_of server) (sealed suite server) 1 (seals suite server) (received suite client)
     (lent-to_open suite client)
 

@@ -24,7 +24,7 @@ use Rattle.demands.specs.Chains.{Among}
 use Rattle.demands.specs.Steps.{Step, on_table, table_left, made}
 use Rattle.demands.proofs.Answering.{line-of, later-line-of}
 use Rattle.demands.proofs.CallLaws.{left-done, left_alone}
-use Rattle.demands.proofs.TableLaws.{not_this, is_used, is_id, change_other, fill_other, change_same, fill_same}
+use Rattle.demands.proofs.TableLaws.{not_this, is-used, is-id, change_other, fill_other, change_same, fill_same}
 
 -- what sealing and opening take from a record, besides its counter; any later field may change
 pub record Held : Type 0 where
@@ -90,10 +90,10 @@ pub change_follows : (i : ℕ) (f : Session → Session) → ((x : Session) → 
 change_follows i f same j t h k = go (ℕ_discrete j i)
   where
     itself : j ≡ i → record_of i (change_record f i t) ≡ f (record_of i t)
-    itself p = change_same i f (λ x e. ap (is_held i) (same x) ∙ e) t (is_used i (record_of i t) k)
+    itself p = change_same i f (λ x e. ap (is_held i) (same x) ∙ e) t (is-used i (record_of i t) k)
 
     not_mine : j ≢ i → (x : Session) → is_session j x ≡ true → is_session i (f x) ≡ false
-    not_mine d x e = ap (is_held i) (same x) ∙ not_this i x (λ q. d (sym (is_id j x e) ∙ q))
+    not_mine d x e = ap (is_held i) (same x) ∙ not_this i x (λ q. d (sym (is-id j x e) ∙ q))
 
     go : Dec (j ≡ i) → Follows (record_of i t) (record_of i (change_record f j t))
     go (yes p) = rw (p, itself p) (rw p at h)
@@ -119,7 +119,7 @@ module _ (P : Primitives) where
   added_record a w n e =
       let s = add_says a w n e in
       ap (λ (x : Lent). record_of a.id x.table) (left-done P (adding a) w n e)
-      ∙ fill_same a.id (new_record P.kdf a) (eq-eqb a.id a.id refl) w.table s.new-id s.room
+      ∙ fill_same a.id (new_record P.kdf a) (eq-eqb a.id a.id refl) w.table s.new_id s.room
 
   pub added_present : (a : Adding) (w : Lent) (n : ℕ) → answer P (adding a) w ≡ done n → Present a.id (left P (adding a) w).table
   added_present a w n e = ap (is_session a.id) (added_record a w n e) ∙ eq-eqb a.id a.id refl
@@ -149,8 +149,8 @@ module _ (P : Primitives) where
       where
         go : Dec (a.id ≡ i) → Follows (record_of i w.table) (record_of i (fill_free (new_record P.kdf a) w.table))
         go (yes p) =
-            let u : (record_of a.id w.table).used ≡ true = rw p (is_used i (record_of i w.table) k) in
-            absurd (true≢false (sym u ∙ (add_says a w n e).new-id))
+            let u : (record_of a.id w.table).used ≡ true = rw p (is-used i (record_of i w.table) k) in
+            absurd (true≢false (sym u ∙ (add_says a w n e).new_id))
         go (no d) = follows_self (fill_other i a.id (λ q. d (sym q)) (new_record P.kdf a) refl w.table)
 
     -- a seal with success did not find the last counter value

@@ -34,7 +34,7 @@ module _ (P : Primitives) where
   -- ____ one piece
 
   record Hands (u : Underway) (p : Bytes) : Type 0 where
-    same_begun : (handed_on P u p).begun ≡ u.begun
+    same-begun : (handed_on P u p).begun ≡ u.begun
     same_start : (handed_on P u p).start ≡ u.start
     more : (handed_on P u p).joined ≡ u.joined ++ joined_bytes (when_done (answer P (fold_piece p) (only_underway u)) (λ n. p ∷ []) [])
 
@@ -46,7 +46,7 @@ module _ (P : Primitives) where
   unfolding effect with_piece
   hands u p =
       let a = answer P (fold_piece p) (only_underway u) in
-      record { same_begun = begun a; same_start = start a; more = more a }
+      record { same-begun = begun a; same_start = start a; more = more a }
     where
       begun : (a : Answer) → (after u p a).begun ≡ u.begun
       begun (done n) = refl
@@ -100,10 +100,10 @@ module _ (P : Primitives) where
     unfolding tests
     answer-is kind = ap (λ (m : Bytes). answer P (folding kind m) (only_chain v)) message-is
 
-    finished_is : (kind : FoldKind) (x : Bytes) → length x ≡ 64
+    finished-is : (kind : FoldKind) (x : Bytes) → length x ≡ 64
         → (left P (fold_finishing kind) (chain_and_underway x last)).chain
         ≡ cond (goes_in kind (message_joined P v ps)) (P.sha512 (v ++ message_joined P v ps)) x
-    finished_is kind x k = finish_any P x kind last k ∙ (λ i. cond (goes_in kind (message-is i)) (P.sha512 (start_is i ++ message-is i)) x)
+    finished-is kind x k = finish_any P x kind last k ∙ (λ i. cond (goes_in kind (message-is i)) (P.sha512 (start_is i ++ message-is i)) x)
 
   -- ____ no piece is refused
 
@@ -127,9 +127,9 @@ module _ (P : Primitives) where
   holds_of =
       record {
         same_answer = λ kind v ps l. answer-is v l ps kind;
-        same-value = λ kind v ps l. finished_is v l ps kind v l ∙ sym (fold_left P v kind (message_joined P v ps) l);
+        same-value = λ kind v ps l. finished-is v l ps kind v l ∙ sym (fold_left P v kind (message_joined P v ps) l);
         from_start = λ kind v x ps l k g.
-            finished_is v l ps kind x k
+            finished-is v l ps kind x k
             ∙ ap (λ (b : Bool). cond b (P.sha512 (v ++ message_joined P v ps)) x) g
             ∙ sym (fold_left P v kind (message_joined P v ps) l ∙ ap (λ (b : Bool). cond b (P.sha512 (v ++ message_joined P v ps)) v) g);
         all_taken = λ v ps l h. rw (begun-is v l) (none-refused ps (begun_from v) refl (omega (arith, h)));

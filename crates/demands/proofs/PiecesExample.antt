@@ -23,9 +23,9 @@ abbrev calls_alone : List Call → List ChainStep
 calls_alone [] = []
 calls_alone (c ∷ cs) = calling c ∷ calls_alone cs
 
-pub calls_in_order : (P : Primitives) (cs : List Call) (v : Bytes) → InOrder P (starting v) (calls_alone cs)
-calls_in_order P [] v = tt
-calls_in_order P (c ∷ cs) v = (λ m e k. refl, calls_in_order P cs _)
+pub calls_in-order : (P : Primitives) (cs : List Call) (v : Bytes) → InOrder P (starting v) (calls_alone cs)
+calls_in-order P [] v = tt
+calls_in-order P (c ∷ cs) v = (λ m e k. refl, calls_in-order P cs _)
 
 -- ____ a message in pieces
 
@@ -39,13 +39,13 @@ abbrev at_once : ChainSteps
 at_once = record { connection = calling (folding negotiate_message (replicate 64 7)) ∷ []; session = [] }
 
 -- a step that folds nothing in
-nothing_in : {A : Type 0} (m : Bytes) → ◌≡◌ {A = List Bytes} [] (m ∷ []) → A
-nothing_in m e = let z : ◌≡◌ {A = ℕ} 0 1 = ap length e in absurd (omega arith)
+nothing-in : {A : Type 0} (m : Bytes) → ◌≡◌ {A = List Bytes} [] (m ∷ []) → A
+nothing-in m e = let z : ◌≡◌ {A = ℕ} 0 1 = ap length e in absurd (omega arith)
 
 module _ (P : Primitives) where
-  same_message : end_messages P in_pieces ≡ end_messages P at_once
+  same-message : end_messages P in_pieces ≡ end_messages P at_once
   unfolding tests effect with_piece
-  same_message = refl
+  same-message = refl
 
   -- neither place has a message after the finish
   none_left : (k : ℕ) (a : Bool) → eqb k 0 ≡ a → (b : Bool) → eqb k 1 ≡ b
@@ -57,12 +57,12 @@ module _ (P : Primitives) where
   in_order : EndInOrder P in_pieces
   in_order = (
     (
-      λ m e k. nothing_in m e,
+      λ m e k. nothing-in m e,
       (
-        λ m e k. nothing_in m e,
+        λ m e k. nothing-in m e,
         (
-          λ m e k. nothing_in m e,
-          (λ m e k. nothing_in m e, (λ m e k. nothing_in m e, (λ m e k. none_left k (eqb k 0) refl (eqb k 1) refl, tt))),
+          λ m e k. nothing-in m e,
+          (λ m e k. nothing-in m e, (λ m e k. nothing-in m e, (λ m e k. none_left k (eqb k 0) refl (eqb k 1) refl, tt))),
         ),
       ),
     ),

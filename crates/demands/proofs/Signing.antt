@@ -11,7 +11,7 @@ use lib.Dec.{eqb, ltb}
 use lib.ListN.{length, take, drop, replicate, length-append, length-drop, take-append-drop}
 use lib.Seq.{take_at, drop_at, length-take-le, take-append-le, drop-append-le}
 use Rattle.octets.specs.Numbers.{bytes_at, little_endian, to_little_endian}
-use Rattle.octets.specs.Same.{same_part}
+use Rattle.octets.specs.Same.{same_bytes}
 use Rattle.octets.proofs.NumberLaws.{length-to_little_endian}
 use Rattle.octets.proofs.SameLaws.{same_self, same_equal}
 use Rattle.cmac.specs.Cmac as rfc4493
@@ -24,7 +24,7 @@ use Rattle.protocol.specs.Signing.{is_signed, with_signed_flag, with_signature, 
 use Rattle.protocol.specs.Calls.{signing_under, verifying_under, Lent, verdict, lines, sign_tests, verify_tests, tests, effect, answer, left}
 use Rattle.protocol.specs.Suite.{suite, cmac}
 use Rattle.protocol.proofs.Judging.{line}
-use Rattle.protocol.proofs.SuiteLaws.{cmac_is, suite_sound}
+use Rattle.protocol.proofs.SuiteLaws.{cmac-is, suite_sound}
 use Rattle.protocol.proofs.BytesLaws.{skip}
 use Rattle.protocol.proofs.SignedBytes.{flagged_length}
 use Rattle.demands.specs.Lines.{None, no_line}
@@ -45,7 +45,7 @@ module _ (key m : Bytes) where
       past_line _ (ap not (eq-eqb (length key) 16 h.key_fits))
       (past_line _ (le-ltb longest_message (length m) h.short)
       (past_line _ (le-ltb (length m) 64 h.long)
-      (past_line _ (ap not (ap (λ (x : Bytes). same_part x magic) h.begins ∙ same_self magic)) no_line)))
+      (past_line _ (ap not (ap (λ (x : Bytes). same_bytes x magic) h.begins ∙ same_self magic)) no_line)))
 
   checks-of : not (eqb (length key) 16) ≡ false → ltb longest_message (length m) ≡ false → ltb (length m) 64 ≡ false → not (is_inner_header m 0) ≡ false
       → SignChecks key m
@@ -65,7 +65,7 @@ module _ (key m : Bytes) where
   -- 25: the signature that the message should have, in full
   signature-is : signature_under cmac key m ≡ rfc4493.cmac (aes key) (take 48 m ++ (replicate 16 0 ++ drop 64 m))
   unfolding signature_under with_signature
-  signature-is = cmac_is key (take 48 m ++ (replicate 16 0 ++ drop 64 m))
+  signature-is = cmac-is key (take 48 m ++ (replicate 16 0 ++ drop 64 m))
 
   abbrev right : Bytes
   right = signature_under cmac key m
@@ -74,7 +74,7 @@ module _ (key m : Bytes) where
   verify_passes v =
       past_part (sign_passes v.checks)
       (past_line _ (ap not (eq-eqb (number_at 16 4 m / 8 % 2) 1 v.flag))
-      (past_line _ (ap not (ap (λ (x : Bytes). same_part x right) (v.signature ∙ sym signature-is) ∙ same_self right)) no_line))
+      (past_line _ (ap not (ap (λ (x : Bytes). same_bytes x right) (v.signature ∙ sym signature-is) ∙ same_self right)) no_line))
 
   says_verify : None (verify_tests key m right) → Verifies key m
   says_verify h =
@@ -82,7 +82,7 @@ module _ (key m : Bytes) where
       record {
         checks = checks-of (at 40) (at 3) (at 11) (at 12);
         flag = eqb-true (number_at 16 4 m / 8 % 2) 1 (not-false (is_signed m) (at 24));
-        signature = same_equal (bytes_at 48 16 m) right (not-false (same_part (bytes_at 48 16 m) right) (at 25)) ∙ signature-is;
+        signature = same_equal (bytes_at 48 16 m) right (not-false (same_bytes (bytes_at 48 16 m) right) (at 25)) ∙ signature-is;
       }
 
 -- ____ the answers, both ways

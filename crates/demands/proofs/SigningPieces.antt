@@ -148,12 +148,12 @@ without_message : (ps : List Bytes) (w : Lent) → answer suite (verify_finishin
 unfolding tests
 without_message ps w = ap (λ (s : Underway). answer suite (verify_finishing s) w) (stays ps)
 
-no_signature : (ps : List Bytes) (place : Bytes) → length place ≡ 16
+no-signature : (ps : List Bytes) (place : Bytes) → length place ≡ 16
     → answer suite (sign_finishing (after_pieces not_begun ps)) (only_signature place) ≡ refused 11
 unfolding tests
-no_signature ps place l =
+no-signature ps place l =
     ap (λ (s : Underway). answer suite (sign_finishing s) (only_signature place)) (stays ps)
     ∙ ap (λ (b : Bool). cond (not b) (refused 40) (refused 11)) (eq-eqb (length place) 16 l)
 
 pub signing-pieces : SigningPieces
-signing-pieces = record { in_pieces = in_pieces; without_message = without_message; no_signature = no_signature }
+signing-pieces = record { in_pieces = in_pieces; without_message = without_message; no-signature = no-signature }

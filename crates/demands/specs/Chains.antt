@@ -164,13 +164,13 @@ pub record Collision (sha512 : Bytes → Bytes) (strings : List Bytes) : Type 0 
   pub one-hashed : Among one strings
   pub other-hashed : Among other strings
   pub different : one ≢ other
-  pub same_hash : sha512 one ≡ sha512 other
+  pub same-hash : sha512 one ≡ sha512 other
 
 -- among the strings is one whose SHA-512 is 64 zero bytes
 pub record ZeroHash (sha512 : Bytes → Bytes) (strings : List Bytes) : Type 0 where
   pub string : Bytes
   pub hashed : Among string strings
-  pub zero_hash : sha512 string ≡ fresh_chain
+  pub zero-hash : sha512 string ≡ fresh_chain
 
 module _ (P : Primitives) where
   -- "Both ends' strings count together."

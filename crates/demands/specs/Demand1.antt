@@ -67,7 +67,7 @@ Visits (over m e) n = Walked m e n
 pub data Refuses (t : Tests) : ℕ → Type 0 where
   by_line : {n : ℕ} → First t.before n → Refuses t n
   by_walk : {n : ℕ} → None t.before → Breaks t.walked n → Refuses t n
-  by_later_line : {n : ℕ} (h : ℕ) → None t.before → Visits t.walked h → First t.later n → Refuses t n
+  by_later-line : {n : ℕ} (h : ℕ) → None t.before → Visits t.walked h → First t.later n → Refuses t n
 
 -- none applies, and the walk visits n headers
 pub record Passes (t : Tests) (n : ℕ) : Type 0 where
@@ -93,6 +93,6 @@ pub record Demand1 (P : Primitives) : Type 0 where
   -- "the answer otherwise carries only the number": the place for the number of headers is as it was lent, too
   pub headers : (a : Answer) (n h : ℕ) → a ≡ refused n → carried a h ≡ h
   -- "another status leaves the value and says not folded, which is a done answer": 0 with the mark 0
-  pub not_folded : (kind : FoldKind) (m : Bytes) (w : Lent)
+  pub not-folded : (kind : FoldKind) (m : Bytes) (w : Lent)
       → (answer P (folding kind m) w ≡ done 0) ↔ (None (tests P (folding kind m) w).before × (status_allows kind m ≡ false))
-  pub not_folded-leaves : (kind : FoldKind) (m : Bytes) (w : Lent) → answer P (folding kind m) w ≡ done 0 → left P (folding kind m) w ≡ w
+  pub not-folded-leaves : (kind : FoldKind) (m : Bytes) (w : Lent) → answer P (folding kind m) w ≡ done 0 → left P (folding kind m) w ≡ w

@@ -29,7 +29,7 @@ use Rattle.demands.specs.Verifying.{SignChecks, Verifies}
 
 -- ____ keys
 
--- "Each key is the first 16 bytes of HMAC-SHA-256, keyed with it, over" what `derivationInput` makes of label and context; or the first 32
+-- "Each key is the first 16 bytes of HMAC-SHA-256, keyed with it, over" what `derivation_input` makes of label and context; or the first 32
 abbrev pub key_from : ℕ → Bytes → Bytes → Bytes → Bytes
 key_from bytes key label context = take bytes (hmac sha256 key (derivation_input bytes label context))
 
@@ -95,7 +95,7 @@ pub record OpenedOfPapers : Type 0 where
   pub one-text : (cipher : ℕ) (key m text text' : Bytes) → Carries cipher key m text → Carries cipher key m text' → text ≡ text'
   pub text_under_key : (c : Connection) (key : Bytes) (id : ℕ) (w : Lent) (n : ℕ) (o : OpensUnderKey c key id w.message n)
       → left suite (opening_under c key id) w ≡ opened_with o.text w
-  pub text_with_table : (c : Connection) (w : Lent) (n : ℕ) (o : OpensWithRecord c w.message (record_named w) n)
+  pub text-with-table : (c : Connection) (w : Lent) (n : ℕ) (o : OpensWithRecord c w.message (record_named w) n)
       → left suite (opening c) w ≡ opened_with o.text w
 
 -- ____ signed bytes, and verifying

@@ -12,7 +12,7 @@ use blocks::block_at;
 use kdf::{derive_16, derive_32};
 
 // A cipher key of 16 bytes has zeros behind it.
-#[derive(Drop)]
+#[derive(Clone, Copy)]
 pub struct Keys {
     pub signing: [u8; 16],
     pub application: [u8; 16],

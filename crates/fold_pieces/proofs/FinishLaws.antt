@@ -12,7 +12,7 @@ use lib.ListN.{length, take, length-append}
 use lib.Seq.{take_all}
 use Rattle.octets.proofs.BoolLaws.{and_true}
 use Rattle.sha512.specs.Code.{finished}
-use Rattle.sha512.proofs.AnyState.{finished_is}
+use Rattle.sha512.proofs.AnyState.{finished-is}
 use Rattle.protocol.specs.Bytes.{Bytes}
 use Rattle.protocol.specs.Answer.{Answer, done, refused, answer_number, carried, when_done, judge}
 use Rattle.protocol.specs.Preauth.{FoldKind, negotiate_message, setup_request, setup_response, admitted, more_processing, status_allows}
@@ -21,8 +21,8 @@ use Rattle.protocol.specs.Refusals.{fold_length, bad_length}
 use Rattle.protocol.specs.Calls.{fold_finishing, chain_and_underway, fold_tests, tests, effect}
 use Rattle.protocol.specs.Contract.{Makes}
 use Rattle.protocol.specs.Suite.{suite, sha512}
-use Rattle.protocol.proofs.SuiteLaws.{sha512_is}
-use Rattle.preauth.proofs.FoldLaws.{refused_40, refused_23, left_out, folded_in, mark-carried, limits}
+use Rattle.protocol.proofs.SuiteLaws.{sha512-is}
+use Rattle.preauth.proofs.FoldLaws.{refused_40, refused_23, left_out, folded-in, mark-carried, limits}
 use Rattle.fold_pieces.specs.declared.FoldState.{FoldState}
 use Rattle.fold_pieces.specs.declared.FoldStep.{FoldStep}
 use Rattle.fold_pieces.specs.State.{StandsFor, ends}
@@ -57,14 +57,14 @@ module _ (s : FoldState) (allowed : Bool) (v : Bytes) where
 
 -- ____ the call
 
-finish_tests : (kind : FoldKind) (v : Bytes) (u : Underway) → tests suite (fold_finishing kind) (chain_and_underway v u) ≡ fold_tests kind v (message_of u)
+finish-tests : (kind : FoldKind) (v : Bytes) (u : Underway) → tests suite (fold_finishing kind) (chain_and_underway v u) ≡ fold_tests kind v (message_of u)
 unfolding tests
-finish_tests kind v u = refl
+finish-tests kind v u = refl
 
-finish_leaves : (kind : FoldKind) (v : Bytes) (u : Underway) → status_allows kind (message_of u) ≡ false
+finish-leaves : (kind : FoldKind) (v : Bytes) (u : Underway) → status_allows kind (message_of u) ≡ false
     → chain_and_underway v u ≡ effect suite (fold_finishing kind) (chain_and_underway v u)
 unfolding effect finished_value
-finish_leaves kind v u b = rw b
+finish-leaves kind v u b = rw b
 
 finish_puts : (kind : FoldKind) (v v' : Bytes) (u : Underway) → status_allows kind (message_of u) ≡ true → v' ≡ sha512 (u.start ++ message_of u)
     → chain_and_underway v' u ≡ effect suite (fold_finishing kind) (chain_and_underway v u)
@@ -101,8 +101,8 @@ module _ (s : FoldState) (u : Underway) (k : StandsFor s u) where
         let most = (limits (message_of u) fits).1 in
         let n : length u.joined ≡ length (message_of u) = ap length (sym joined_is) in
         let a : length (u.start ++ u.joined) ≡ length u.start + length u.joined = length-append u.start u.joined in
-        finished_is s.hash (u.start ++ u.joined) x.hashed (omega (arith, x.started, most, n, a))
-        ∙ sym (sha512_is (u.start ++ u.joined))
+        finished-is s.hash (u.start ++ u.joined) x.hashed (omega (arith, x.started, most, n, a))
+        ∙ sym (sha512-is (u.start ++ u.joined))
         ∙ ap (λ (m : Bytes). sha512 (u.start ++ m)) (sym joined_is)
 
   module _ (kind : FoldKind) (v : Bytes) where
@@ -117,19 +117,19 @@ module _ (s : FoldState) (u : Underway) (k : StandsFor s u) where
         → Makes (fold_finishing kind) (chain_and_underway v u) (answer_if a b c)
         (chain_and_underway (when_done (answer_if a b c) (λ n. cond c (finished s.hash) v) v) u)
     makes false b c ea eb ec =
-        refused_40 (fold_finishing kind) (chain_and_underway v u) kind (message_of u) (finish_tests kind v u) (eqb-false (length v) 64 ea)
+        refused_40 (fold_finishing kind) (chain_and_underway v u) kind (message_of u) (finish-tests kind v u) (eqb-false (length v) 64 ea)
     makes true false c ea eb ec =
-        refused_23 (fold_finishing kind) (chain_and_underway v u) kind (message_of u) (finish_tests kind v u) (eqb-true (length v) 64 ea)
+        refused_23 (fold_finishing kind) (chain_and_underway v u) kind (message_of u) (finish-tests kind v u) (eqb-true (length v) 64 ea)
         (sym (ends_is s u k) ∙ eb)
     makes true true false ea eb ec =
         let fits = sym (ends_is s u k) ∙ eb in
         let out = sym (status_is fits kind) ∙ ec in
-        left_out (fold_finishing kind) (chain_and_underway v u) kind (message_of u) (finish_tests kind v u) (eqb-true (length v) 64 ea) fits out
-        (finish_leaves kind v u out)
+        left_out (fold_finishing kind) (chain_and_underway v u) kind (message_of u) (finish-tests kind v u) (eqb-true (length v) 64 ea) fits out
+        (finish-leaves kind v u out)
     makes true true true ea eb ec =
         let fits = sym (ends_is s u k) ∙ eb in
         let in-it = sym (status_is fits kind) ∙ ec in
-        folded_in (fold_finishing kind) (chain_and_underway v u) kind (message_of u) (finish_tests kind v u) (eqb-true (length v) 64 ea) fits
+        folded-in (fold_finishing kind) (chain_and_underway v u) kind (message_of u) (finish-tests kind v u) (eqb-true (length v) 64 ea) fits
         (chain_and_underway (finished s.hash) u) in-it (finish_puts kind v (finished s.hash) u in-it (value-is fits))
 
     pub finish-is : Finishes kind u v (end_step s allowed v) (end_value s allowed v)

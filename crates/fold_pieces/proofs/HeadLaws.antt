@@ -94,10 +94,10 @@ fitting k p = go (leb (length p) k) refl
         let n : min (length p) k ≡ k = omega (arith, h) in
         ap (λ (i : ℕ). take i p) n
 
-pub head_is : (head p : List ℕ) (j : ℕ) {after : List ℕ} {at n : ℕ} → at ≡ min j 12 → n ≡ min (length p) (12 - at)
+pub head-is : (head p : List ℕ) (j : ℕ) {after : List ℕ} {at n : ℕ} → at ≡ min j 12 → n ≡ min (length p) (12 - at)
     → after ≡ paste head at (take n p) (length (take n p)) → after ≡ head_with head j p
 unfolding head_with
-head_is head p j {after} {at} {n} ea en e =
+head-is head p j {after} {at} {n} ea en e =
     e
     ∙ ap (λ (x : List ℕ). paste head at x (length x)) (ap (λ (i : ℕ). take i p) en ∙ fitting (12 - at) p)
     ∙ ap (front_at head p) ea

@@ -10,7 +10,7 @@ use lib.Dec.{eqb, leb}
 use lib.ListN.{length, take, replicate, length-append}
 use Rattle.sha512.specs.declared.Sha512.{Sha512}
 use Rattle.sha512.specs.Code.{nothing_taken, updated}
-use Rattle.sha512.proofs.Beginning.{nothing_holds}
+use Rattle.sha512.proofs.Beginning.{nothing-holds}
 use Rattle.sha512.proofs.AnyState.{updated-holds}
 use Rattle.protocol.specs.Bytes.{Bytes}
 use Rattle.protocol.specs.Answer.{done, refused, answer_number, when_done}
@@ -64,16 +64,16 @@ module _ (s : FoldState) (p : Bytes) where
 -- what the hash holds does not count
 pub without_message : StandsFor no_message not_begun
 unfolding no_message
-without_message = record { same_begun = refl; hashes = λ b. absurd (true≢false (sym b)) }
+without_message = record { same-begun = refl; hashes = λ b. absurd (true≢false (sym b)) }
 
 module _ (v : Bytes) where
   begun-stands : length v ≡ 64 → StandsFor (begun_on v) (begun_from v)
   unfolding begun_on
   begun-stands l =
       record {
-        same_begun = refl;
+        same-begun = refl;
         hashes = λ b.
-            let taken = updated-holds nothing_taken [] v nothing_holds in
+            let taken = updated-holds nothing_taken [] v nothing-holds in
             record { hashed = rw (append-nil v) taken; started = l; counted = refl; room = refl; headed = refl };
       }
 
@@ -126,7 +126,7 @@ module _ (s : FoldState) (u : Underway) (h : StandsFor s u) where
   module _ (p : Bytes) where
     joined-stands : StandsFor (joined_by s p) (with_piece p u)
     unfolding joined_by with_piece
-    joined-stands = record { same_begun = h.same-begun; hashes = hashes }
+    joined-stands = record { same-begun = h.same-begun; hashes = hashes }
       where
         hashes : u.begun ≡ true → Hashes (joined_by s p) (with_piece p u)
         hashes t =

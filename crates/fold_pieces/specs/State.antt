@@ -58,5 +58,5 @@ pub record Hashes (s : FoldState) (u : Underway) : Type 0 where
   pub headed : take s.joined s.head ≡ take 12 u.joined
 
 pub record StandsFor (s : FoldState) (u : Underway) : Type 0 where
-  pub same_begun : flag s.underway ≡ u.begun
+  pub same-begun : flag s.underway ≡ u.begun
   pub hashes : u.begun ≡ true → Hashes s u

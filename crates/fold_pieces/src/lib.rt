@@ -15,7 +15,7 @@ use sha512::Sha512;
 // struct smb3seal_fold_state: the hash of the value begun from and of the bytes joined so far, how many these are, and the first twelve of
 // them, which end with the status. Any bytes are a state; no message is under way where `underway` is 0.
 #[repr(C)]
-#[derive(Drop)]
+#[derive(Clone, Copy)]
 pub struct FoldState {
     hash: Sha512,
     joined: u64,
@@ -26,7 +26,7 @@ pub struct FoldState {
 
 // struct smb3seal_fold_step: the state handed back, the number of RULES 2, and the mark of a finish: 1 folded, 0 not folded.
 #[repr(C)]
-#[derive(Drop)]
+#[derive(Clone, Copy)]
 pub struct FoldStep {
     pub state: FoldState,
     pub number: u32,

@@ -14,13 +14,13 @@ ghost use Rattle.ghash.specs.Elements.{Prepared};
 use ghash_field::Element;
 
 // The hash subkey H, ready for multiplication: the table of its products.
-#[derive(Drop)]
+#[derive(Clone, Copy)]
 pub struct HashKey {
     table: [u64; 32],
 }
 
 // The running hash, Y.
-#[derive(Drop)]
+#[derive(Clone, Copy)]
 pub struct Running {
     y: Element,
 }

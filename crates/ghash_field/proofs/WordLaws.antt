@@ -32,8 +32,8 @@ join_half h l = omega arith
 join_odd : (h l : ℕ) → join h l % 2 ≡ l % 2
 join_odd h l = omega arith
 
-high_r : (b : ℕ) → b * R ≡ join (b * 0xE100_0000_0000_0000) 0
-high_r b = sym (add-zero (b * 0xE100_0000_0000_0000 * 2 ^ 64) ∙ mul_assoc b 0xE100_0000_0000_0000 (2 ^ 64))
+high_R : (b : ℕ) → b * R ≡ join (b * 0xE100_0000_0000_0000) 0
+high_R b = sym (add-zero (b * 0xE100_0000_0000_0000 * 2 ^ 64) ∙ mul_assoc b 0xE100_0000_0000_0000 (2 ^ 64))
 
 pub join-times_x : (h l r : ℕ) → l < 2 ^ 64 → r ≡ l % 2 * 0xE100_0000_0000_0000
     → join (bit_xor (h / 2) r) (h % 2 * 0x8000_0000_0000_0000 + l / 2) ≡ times_x (join h l)
@@ -41,6 +41,6 @@ unfolding times_x
 join-times_x h l r k e =
     let m : ℕ = h % 2 * 0x8000_0000_0000_0000 + l / 2 in
     let hm : m < 2 ^ 64 = low_fits h l k in
-    sym (ap₂ bit_xor (join_half h l) (ap (λ (n : ℕ). n * R) (join_odd h l) ∙ high_r (l % 2) ∙ ap (λ (n : ℕ). join n 0) (sym e))
+    sym (ap₂ bit_xor (join_half h l) (ap (λ (n : ℕ). n * R) (join_odd h l) ∙ high_R (l % 2) ∙ ap (λ (n : ℕ). join n 0) (sym e))
     ∙ xor_block 64 (h / 2) r m 0 hm (omega arith)
     ∙ ap (join (bit_xor (h / 2) r)) (xor_zero_r m))

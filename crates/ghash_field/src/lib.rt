@@ -10,7 +10,7 @@ ghost use Rattle.ghash_field.specs.Field.{mul};
 ghost use Rattle.ghash_field.specs.Elements.{element_of, join, Products};
 
 // An element of the field: the high and the low word of its number.
-#[derive(Drop)]
+#[derive(Clone, Copy)]
 pub struct Element {
     pub hi: u64,
     pub lo: u64,

@@ -5,7 +5,7 @@ ghost use Rattle.ghash_field.specs.Elements.{element_of, wide_of, times_power};
 use crate::Element;
 
 // 256 bits, w3 the highest word.
-#[derive(Drop)]
+#[derive(Clone, Copy)]
 pub struct Wide {
     pub w3: u64,
     pub w2: u64,

@@ -8,6 +8,6 @@ use Rattle.sha_2.specs.Sha2.{Sha2}
 use Rattle.sha_2.proofs.Lengths.{length-hash}
 use Rattle.hmac.specs.Hmac.{hmac}
 
-pub length_hmac : (p : Sha2) (key text : List ℕ) → length (hmac p key text) ≡ 8 * p.bytes
+pub length-hmac : (p : Sha2) (key text : List ℕ) → length (hmac p key text) ≡ 8 * p.bytes
 unfolding hmac
-length_hmac p key text = length-hash p _
+length-hmac p key text = length-hash p _

@@ -12,7 +12,7 @@ use key::{key_block, xor_repeated};
 use sha256::Sha256;
 
 // A MAC under way: the two hashes, each with its block of the key taken in.
-#[derive(Drop)]
+#[derive(Clone, Copy)]
 pub struct Mac {
     inner: Sha256,
     outer: Sha256,

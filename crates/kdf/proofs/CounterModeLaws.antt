@@ -9,7 +9,7 @@ use lib.Seq.{length-take-le}
 use Rattle.octets.specs.Numbers.{to_big_endian}
 use Rattle.sha_2.specs.Sha256.{sha256}
 use Rattle.hmac.specs.Hmac.{hmac}
-use Rattle.hmac.proofs.Lengths.{length_hmac}
+use Rattle.hmac.proofs.Lengths.{length-hmac}
 use Rattle.kdf.specs.CounterMode.{fixed_input, block, blocks, derive, derive_sha256}
 
 joined : (i label context n : List ℕ) → (((i ++ label) ++ (0 ∷ [])) ++ context) ++ n ≡ i ++ (label ++ ((0 ∷ context) ++ n))
@@ -41,5 +41,5 @@ module _ (n : ℕ) (l : 0 < n) (h : n ≤ 32) (key label context : List ℕ) whe
   pub length_derived : length (derive_sha256 n key label context) ≡ n
   length_derived =
       let text : List ℕ = 0 ∷ 0 ∷ 0 ∷ 1 ∷ (label ++ (0 ∷ (context ++ to_big_endian 4 (8 * n)))) in
-      let k : length (hmac sha256 key text) ≡ 32 = length_hmac sha256 key text in
+      let k : length (hmac sha256 key text) ≡ 32 = length-hmac sha256 key text in
       ap length of-bytes ∙ length-take-le n (hmac sha256 key text) (omega arith)

@@ -13,7 +13,7 @@ use trace_reader::Read;
 pub const HELD: usize = 65536;
 
 // What is to be written of a record. The replay goes on after the first two.
-#[derive(Drop)]
+#[derive(Clone, Copy)]
 pub enum Line {
     // its answer number
     Number(u32),
@@ -24,7 +24,7 @@ pub enum Line {
 }
 
 // What a record gives: its line, the place of the next one, and the lab after it.
-#[derive(Drop)]
+#[derive(Clone, Copy)]
 pub struct Turn {
     pub line: Line,
     pub next: usize,

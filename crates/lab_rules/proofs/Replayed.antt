@@ -96,22 +96,22 @@ turn_same n e f g p s i b ih unreadable t = refl
 
 -- ____ from place to place
 
-same_turns : (n : ℕ) (e : Edition) (s : State) (f g : Bytes) (p i : ℕ) → Behind f g p → turns_from n e s g p i ≡ lines_from n e s f p i
+same-turns : (n : ℕ) (e : Edition) (s : State) (f g : Bytes) (p i : ℕ) → Behind f g p → turns_from n e s g p i ≡ lines_from n e s f p i
 unfolding turns_from lines_from
-same_turns zero e s f g p i b = refl
-same_turns (suc n) e s f g p i b =
+same-turns zero e s f g p i b = refl
+same-turns (suc n) e s f g p i b =
     ap (λ (r : Reading). line_then (outcome r s g p) i (turns_from n e (state_after r s g) (file_after r s g) (place_after r p) (i + 1)))
     (same_reading e f g p b)
-    ∙ turn_same n e f g p s i b (λ s' g' q b'. same_turns n e s' f g' q (i + 1) b') (read_at e f p) refl
+    ∙ turn_same n e f g p s i b (λ s' g' q b'. same-turns n e s' f g' q (i + 1) b') (read_at e f p) refl
 
 same_lines : (f : Bytes) (e d c n : ℕ) → read_file_head f ≡ file_head e d c → length f ≤ 4 + n
     → turns_from n (edition_of e) (fresh_state d c) f 4 0 ≡ lines_of f
 unfolding lines_of
 same_lines f e d c n t h =
-    same_turns n (edition_of e) (fresh_state d c) f f 4 0 (record { size = refl; rest = refl })
+    same-turns n (edition_of e) (fresh_state d c) f f 4 0 (record { size = refl; rest = refl })
     ∙ enough n (length f) (edition_of e) (fresh_state d c) f 4 0 h (omega arith)
     ∙ ap (λ (x : FileReading). lines_under x f) (sym t)
 
 pub replayed : Replayed
 unfolding lines_of
-replayed = record { same_lines = same_lines; no_head = λ f t. ap (λ (x : FileReading). lines_under x f) t }
+replayed = record { same_lines = same_lines; no-head = λ f t. ap (λ (x : FileReading). lines_under x f) t }

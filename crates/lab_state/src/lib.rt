@@ -10,7 +10,7 @@ use connection::Connection;
 use table_by_value::Table;
 
 // The file head's dialect and cipher, the connection's chain, the session chain, and the table.
-#[derive(Drop)]
+#[derive(Clone, Copy)]
 pub struct Lab {
     pub dialect: u16,
     pub cipher: u16,

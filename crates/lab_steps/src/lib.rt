@@ -14,7 +14,7 @@ use lab_state::{Lab, chained, receiver};
 use session_record::Adding;
 
 // What a record gives: its answer number, and the lab after it.
-#[derive(Drop)]
+#[derive(Clone, Copy)]
 pub struct Stepped {
     pub number: u32,
     pub lab: Lab,

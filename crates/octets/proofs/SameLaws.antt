@@ -1,4 +1,4 @@
--- `sameBytes` decides equality.
+-- `same_bytes` decides equality.
 -- Assumes nothing.
 use mathlib.Core.Path.{◌≡◌, refl, sym, ap, ap₂, ◌∙◌}
 use mathlib.Core.Bool.{Bool, true, false}

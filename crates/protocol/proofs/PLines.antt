@@ -14,7 +14,7 @@ use Rattle.protocol.specs.Keys.{session_key, smb_c2_s_cipher_key, derivation_inp
 use Rattle.protocol.specs.TransformHeader.{nonce_of}
 use Rattle.protocol.specs.Calls.{tests, open_tests}
 use Rattle.protocol.specs.PLines.{header, session5, PLines}
-use Rattle.protocol.proofs.SuiteLaws.{kdf_of_document}
+use Rattle.protocol.proofs.SuiteLaws.{kdf-of_document}
 
 -- 21 bytes before the chain value, and 4 behind it
 hashed : (chain : Bytes) → length chain ≡ 64 → length (derivation_input 16 smb_c2_s_cipher_key chain) ≡ 89
@@ -26,9 +26,9 @@ both : (m : Bytes) (a : Answer) → walk m (session5 false) ≡ a → walk m (se
 both m a c s false = c
 both m a c s true = s
 
-pub p_lines : PLines
+pub p-lines : PLines
 unfolding walk tests open_tests nonce_of little_endian to_little_endian same_bytes derived_keys
-p_lines =
+p-lines =
     record {
       P1 = refl;
       P2 = refl;
@@ -41,6 +41,6 @@ p_lines =
       P9 = both (header 0 68 5 ++ (replicate 8 0 ++ header 4 0 9)) (refused 16) refl refl;
       P10 = both (header 0 64 5 ++ replicate 63 0) (refused 15) refl refl;
       P11 = both (header 0 4294967288 5 ++ header 4 0 9) (refused 15) refl refl;
-      P12 = λ material chain l. (kdf_of_document false (session_key material) smb_c2_s_cipher_key chain, hashed chain l);
+      P12 = λ material chain l. (kdf-of_document false (session_key material) smb_c2_s_cipher_key chain, hashed chain l);
       P13 = refl;
     }

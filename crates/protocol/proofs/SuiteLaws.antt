@@ -28,13 +28,13 @@ use Rattle.protocol.specs.Suite.{suite, sha512, kdf, cmac}
 
 -- ____ each part is what its own crate defines
 
-pub sha512_is : (m : Bytes) → sha512 m ≡ hash sha2.sha512 m
+pub sha512-is : (m : Bytes) → sha512 m ≡ hash sha2.sha512 m
 unfolding suite
-sha512_is m = refl
+sha512-is m = refl
 
-pub kdf_is : (n : ℕ) (key label context : Bytes) → kdf n key label context ≡ derive_sha256 n key label context
+pub kdf-is : (n : ℕ) (key label context : Bytes) → kdf n key label context ≡ derive_sha256 n key label context
 unfolding suite
-kdf_is n key label context = refl
+kdf-is n key label context = refl
 
 -- each size of key is within one block
 one_block : (wide : Bool) → (0 < cipher_key_bytes wide) × (cipher_key_bytes wide ≤ 32)
@@ -42,14 +42,14 @@ one_block true = (lit≤ tt, lit≤ tt)
 one_block false = (lit≤ tt, lit≤ tt)
 
 -- "the first 16 bytes of HMAC-SHA-256 .. over: 00 00 00 01, label, 00, context, 00 00 00 80", or the first 32 with the other closing length
-pub kdf_of_document : (wide : Bool) (key label context : Bytes)
+pub kdf-of_document : (wide : Bool) (key label context : Bytes)
     → kdf (cipher_key_bytes wide) key label context ≡ take (cipher_key_bytes wide) (hmac sha256 key (derivation_input (cipher_key_bytes wide) label context))
 unfolding suite derivation_input
-kdf_of_document wide key label context = of-bytes (cipher_key_bytes wide) (one_block wide).0 (one_block wide).1 key label context
+kdf-of_document wide key label context = of-bytes (cipher_key_bytes wide) (one_block wide).0 (one_block wide).1 key label context
 
-pub cmac_is : (key m : Bytes) → cmac key m ≡ rfc4493.cmac (aes key) m
+pub cmac-is : (key m : Bytes) → cmac key m ≡ rfc4493.cmac (aes key) m
 unfolding suite
-cmac_is key m = refl
+cmac-is key m = refl
 
 -- ____ what is relied on
 
@@ -90,7 +90,7 @@ pub suite_sound : Sound suite
 unfolding suite
 suite_sound =
     record {
-      hash_length = length-hash sha2.sha512;
+      hash-length = length-hash sha2.sha512;
       key_length = λ wide. length_derived (cipher_key_bytes wide) (one_block wide).0 (one_block wide).1;
       signature-length = λ key m. length-cmac (aes key) (λ x. length-cipher _ (expanded_key key) x) m;
       tag-length = λ n. (cipher_sound n).tag-length;

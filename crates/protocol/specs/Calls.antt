@@ -283,7 +283,7 @@ module _ (P : Primitives) where
   effect (folding kind m) w = with_chain (folded P.sha512 kind w.chain m) w
   effect (fold_beginning v) w = with_underway (begun_from v) w
   effect (fold_piece p) w = with_underway (with_piece p w.underway) w
-  -- the state that it is handed is used up: what it hands back is `notBegun`, whatever it answers
+  -- the state that it is handed is used up: what it hands back is `not_begun`, whatever it answers
   effect (fold_finishing kind) w = with_chain (finished_value P.sha512 kind w.chain w.underway) w
   effect (sealing_under c key id) w =
       with_counter (w.counter + 1) (with_message (sealed_under P.ciphers (cipher_used c) key w.counter id (inner w.message)) w)

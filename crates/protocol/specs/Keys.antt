@@ -17,7 +17,7 @@ abbrev pub cipher_material : Bool → Bytes → Bytes
 cipher_material wide material = cond wide material (session_key material)
 
 -- what a key of so many bytes is the HMAC-SHA-256 of: "00 00 00 01, label, 00, context, 00 00 00 80", or "00 00 01 00 as the closing
--- length": that of the key in bits. That the suite's `kdf` takes the first bytes of it is `kdf-of-document` in proofs/
+-- length": that of the key in bits. That the suite's `kdf` takes the first bytes of it is `kdf-of_document` in proofs/
 unfoldable pub derivation_input : ℕ → Bytes → Bytes → Bytes
 derivation_input bytes label context = 0 ∷ 0 ∷ 0 ∷ 1 ∷ (label ++ (0 ∷ (context ++ to_big_endian 4 (8 * bytes))))
 

@@ -7,7 +7,7 @@ use Rattle.protocol.specs.Connection.{cipher_key_bytes}
 use Rattle.protocol.specs.Transform.{Primitives}
 
 pub record Sound (P : Primitives) : Type 0 where
-  pub hash_length : (s : Bytes) → length (P.sha512 s) ≡ 64
+  pub hash-length : (s : Bytes) → length (P.sha512 s) ≡ 64
   pub key_length : (wide : Bool) (key label context : Bytes) → length (P.kdf (cipher_key_bytes wide) key label context) ≡ cipher_key_bytes wide
   pub signature-length : (key m : Bytes) → length (P.cmac key m) ≡ 16
   pub tag-length : (cipher : ℕ) (key nonce auth p : Bytes) → length (P.ciphers.tag cipher key nonce auth p) ≡ 16

@@ -19,7 +19,7 @@ use connection::Connection;
 // struct smb3seal_session: any bytes are a record. A flag is a byte, 0 for no and anything else for yes. Where `wide` is 0 a cipher key is
 // the first 16 of its bytes.
 #[repr(C)]
-#[derive(Drop)]
+#[derive(Clone, Copy)]
 pub struct Session {
     pub id: u64,
     pub counter: u64,
@@ -35,7 +35,7 @@ pub struct Session {
 }
 
 // What adding takes beside the key material and the chain value.
-#[derive(Drop)]
+#[derive(Clone, Copy)]
 pub struct Adding {
     pub dialect: u16,
     pub cipher: u16,
@@ -45,7 +45,7 @@ pub struct Adding {
 }
 
 // What adding and removing give: the number of RULES 2, and the record after it.
-#[derive(Drop)]
+#[derive(Clone, Copy)]
 pub struct Changed {
     pub number: u32,
     pub session: Session,

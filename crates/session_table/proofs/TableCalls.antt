@@ -34,7 +34,7 @@ use Rattle.session_record.specs.declared.Session.{Session}
 use Rattle.session_record.specs.declared.Adding.{Adding}
 use Rattle.session_record.specs.declared.Changed.{Changed}
 use Rattle.session_record.specs.Reading.{free, is_wanted, session_of, stored, stepped}
-use Rattle.session_record.proofs.StoredLaws.{free_read, new_read}
+use Rattle.session_record.proofs.StoredLaws.{free-read, new_read}
 use Rattle.session_record.specs.Adds.{adding_of, AddsWith}
 use Rattle.session_record.specs.Clauses.{SealsWith, counter_moves, OpensWith, named_id, removed_of}
 use Rattle.session_table.specs.Place.{first, place_of, free_place}
@@ -45,34 +45,34 @@ use Rattle.session_table.proofs.StepLaws.{step-none, step-one, steps_alike}
 
 -- ____ the table of the rules, from the table of the code
 
-reads_changed : (c : Call) (m : Bytes) (t : List Session) → table_of (changed c t) ≡ (effect suite c (message_and_table m (table_of t))).table
+reads-changed : (c : Call) (m : Bytes) (t : List Session) → table_of (changed c t) ≡ (effect suite c (message_and_table m (table_of t))).table
 unfolding changed effect
-reads_changed (adding a) m t =
+reads-changed (adding a) m t =
     sym (fills (stored (protocol.new_record kdf a)) t)
     ∙ ap (λ (s : protocol.Session). protocol.fill_free s (table_of t)) (new_read a)
-reads_changed (removing id) m t = sym (changes (λ s. protocol.free_record) id t free free_read)
-reads_changed (stepping id by) m t = sym (changes (protocol.counter_step by) id t _ (steps_alike by _))
-reads_changed (sealing c id) m t = sym (changes protocol.count_up id t _ refl)
-reads_changed (opening c) m t = refl
-reads_changed (derivation dialect cipher chain material) m t = refl
-reads_changed (folding kind v) m t = refl
-reads_changed (fold_beginning v) m t = refl
-reads_changed (fold_piece p) m t = refl
-reads_changed (fold_finishing kind) m t = refl
-reads_changed (sealing_under c key id) m t = refl
-reads_changed (opening_under c key id) m t = refl
-reads_changed (signing_under key) m t = refl
-reads_changed (verifying_under key) m t = refl
-reads_changed (sign_beginning key) m t = refl
-reads_changed (sign_piece p) m t = refl
-reads_changed (sign_finishing u) m t = refl
-reads_changed (verify_finishing u) m t = refl
+reads-changed (removing id) m t = sym (changes (λ s. protocol.free_record) id t free free-read)
+reads-changed (stepping id by) m t = sym (changes (protocol.counter_step by) id t _ (steps_alike by _))
+reads-changed (sealing c id) m t = sym (changes protocol.count_up id t _ refl)
+reads-changed (opening c) m t = refl
+reads-changed (derivation dialect cipher chain material) m t = refl
+reads-changed (folding kind v) m t = refl
+reads-changed (fold_beginning v) m t = refl
+reads-changed (fold_piece p) m t = refl
+reads-changed (fold_finishing kind) m t = refl
+reads-changed (sealing_under c key id) m t = refl
+reads-changed (opening_under c key id) m t = refl
+reads-changed (signing_under key) m t = refl
+reads-changed (verifying_under key) m t = refl
+reads-changed (sign_beginning key) m t = refl
+reads-changed (sign_piece p) m t = refl
+reads-changed (sign_finishing u) m t = refl
+reads-changed (verify_finishing u) m t = refl
 
 leaves_table : (c : Call) (m : Bytes) (t t' : List Session) → Exactly c (message_and_table m (table_of t)) t t'
     → table_of t' ≡ when_done (answer suite c (message_and_table m (table_of t))) (λ n. (effect suite c (message_and_table m (table_of t))).table) (table_of t)
 leaves_table c m t t' e =
     let a = answer suite c (message_and_table m (table_of t)) in
-    ap table_of e ∙ when_part table_of a (changed c t) t ∙ ap (λ (x : List protocol.Session). when_done a (λ n. x) (table_of t)) (reads_changed c m t)
+    ap table_of e ∙ when_part table_of a (changed c t) t ∙ ap (λ (x : List protocol.Session). when_done a (λ n. x) (table_of t)) (reads-changed c m t)
 
 -- a record that stands there only where the call is done, put at its place
 put : (v : Answer) (ys zs : List Session) (i : ℕ) (new : Session) → zs ≡ set ys i (when_done v (λ n. new) (get_or ys i free))

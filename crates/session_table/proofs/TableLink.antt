@@ -1,4 +1,4 @@
--- The model's table and the places of the code's table: what the walks say by `place_of`, `get_or` and `set` is what the model says by `recordOf`, `changeRecord`, `fillFree` and `hasFree`.
+-- The model's table and the places of the code's table: what the walks say by `place_of`, `get_or` and `set` is what the model says by `record_of`, `change_record`, `fill_free` and `has_free`.
 --     reads    lookup.        changes     a change at the session of an id.        fills, has_free_lem     a new record at the first free place
 --     keeps    a record put back where it stood leaves the table as it was
 -- Assumes nothing.
@@ -14,14 +14,14 @@ use lib.Dec.{ltb, is_le}
 use Rattle.session_record.specs.declared.Session.{Session}
 use Rattle.connection.specs.Reading.{flag}
 use Rattle.session_record.specs.Reading.{free, is_wanted, session_of}
-use Rattle.session_record.proofs.StoredLaws.{free_read}
+use Rattle.session_record.proofs.StoredLaws.{free-read}
 use Rattle.session_table.specs.Place.{first, place_of, free_place}
 use Rattle.protocol.specs.SessionTable as model
 use Rattle.session_table.specs.Reading.{table_of}
 
 pub reads : (id : ℕ) (t : List Session) → model.record_of id (table_of t) ≡ session_of (get_or t (place_of id t) free)
 unfolding first
-reads id [] = sym free_read
+reads id [] = sym free-read
 reads id (x ∷ xs) = go (is_wanted true id x) (reads id xs)
   where
     go : (b : Bool) → model.record_of id (table_of xs) ≡ session_of (get_or xs (place_of id xs) free)

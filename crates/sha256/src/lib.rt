@@ -15,7 +15,7 @@ use sha256_compression::hash_blocks;
 use std::num::wrapping_add_u64;
 
 // A hash under way: the hash value after the whole blocks, the bytes past them, and how many bytes there were, modulo 2^64.
-#[derive(Drop)]
+#[derive(Clone, Copy)]
 pub struct Sha256 {
     hash: [u32; 8],
     buffer: [u8; 64],

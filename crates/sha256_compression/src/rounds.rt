@@ -9,7 +9,7 @@ use crate::functions::{big_sigma0, big_sigma1, ch, maj, small_sigma0, small_sigm
 use std::num::wrapping_add_u32;
 
 // The eight working variables.
-#[derive(Drop)]
+#[derive(Clone, Copy)]
 pub struct Working {
     pub a: u32,
     pub b: u32,

@@ -16,7 +16,7 @@ use std::num::wrapping_add_u64;
 
 // A hash under way: the hash value after the whole blocks, the bytes past them, and how many bytes there were, modulo 2^64.
 #[repr(C)]
-#[derive(Drop)]
+#[derive(Clone, Copy)]
 pub struct Sha512 {
     hash: [u64; 8],
     buffer: [u8; 128],

@@ -9,7 +9,7 @@ use crate::functions::{big_sigma0, big_sigma1, ch, maj, small_sigma0, small_sigm
 use std::num::wrapping_add_u64;
 
 // The eight working variables.
-#[derive(Drop)]
+#[derive(Clone, Copy)]
 pub struct Working {
     pub a: u64,
     pub b: u64,

@@ -13,8 +13,8 @@ use Rattle.octets.proofs.Paste.{take-replicate, drop-replicate}
 use Rattle.sha_2.specs.Sha2.{Sha2, zeros, padding}
 
 -- zeros, of which the first were replaced by all of part
-zeros_after : (part : List ℕ) (k : ℕ) → paste (replicate (length part + k) 0) 0 part (length part) ≡ part ++ replicate k 0
-zeros_after part k =
+zeros-after : (part : List ℕ) (k : ℕ) → paste (replicate (length part + k) 0) 0 part (length part) ≡ part ++ replicate k 0
+zeros-after part k =
     ap₂ (λ (x y : List ℕ). x ++ y) (take-length part)
     (ap (λ (i : ℕ). drop i (replicate (length part + k) 0)) (zero-add (length part)) ∙ drop-replicate (length part) k 0)
 
@@ -37,7 +37,7 @@ module _ (p : Sha2) where
       let q₂ : end - f ≡ k + suc z = omega arith in
       let q₃ : end ≡ end - f + length field = omega arith in
       let g₁ : t₁ ≡ part ++ (0 ∷ replicate (z + r) 0) =
-      e₁ ∙ ap (λ (i : ℕ). paste (replicate i 0) 0 part k) q₁ ∙ zeros_after part (suc (z + r)) in
+      e₁ ∙ ap (λ (i : ℕ). paste (replicate i 0) 0 part k) q₁ ∙ zeros-after part (suc (z + r)) in
       let g₂ : t₂ ≡ part ++ (128 ∷ replicate (z + r) 0) =
       e₂ ∙ ap (λ (l : List ℕ). set l k 128) g₁ ∙ set_at part 0 (replicate (z + r) 0) 128 k refl in
       let g₃ : take (end - f) t₂ ≡ part ++ (128 ∷ replicate z 0) =

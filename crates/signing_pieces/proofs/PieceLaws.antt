@@ -12,7 +12,7 @@ use lib.ListN.{length, take, drop, replicate, length-append, take-append-drop}
 use lib.Seq.{paste, take-length, take_all, take_at, take-append-le, take-paste, length-paste, length-take-le}
 use Rattle.cmac.specs.declared.Mac.{Mac}
 use Rattle.cmac.specs.Running as code
-use Rattle.cmac.proofs.Beginning.{nothing_holds}
+use Rattle.cmac.proofs.Beginning.{nothing-holds}
 use Rattle.cmac.proofs.AnyState.{updated-holds}
 use Rattle.protocol.specs.Bytes.{Bytes}
 use Rattle.protocol.specs.Ciphers.{aes}
@@ -37,7 +37,7 @@ module _ (u : Underway) (b : u.begun ≡ true) (p : Bytes) where
     at = length u.joined
 
     its : UnderWay s u.start u.joined
-    its = h.under-way b
+    its = h.under_way b
 
     total : s.length + length p ≡ length (u.joined ++ p)
     total = ap (λ (n : ℕ). n + length p) h.count ∙ sym (length-append u.joined p)
@@ -54,7 +54,7 @@ module _ (u : Underway) (b : u.begun ≡ true) (p : Bytes) where
           flag = h.flag;
           count = total;
           without_message = λ e. absurd (true≢false (sym b ∙ e));
-          under_way = λ e. record { its_key = its.its-key; room = l; front = f; chained = k };
+          under_way = λ e. record { its_key = its.its_key; room = l; front = f; chained = k };
         }
 
     -- behind the header
@@ -67,7 +67,7 @@ module _ (u : Underway) (b : u.begun ≡ true) (p : Bytes) where
         let r = size in
         let mac : Mac = code.updated (aes s.key) s.code p in
         let held : code.Holds mac (aes u.start) (covered u.joined ++ p) =
-        subst (λ (k : Bytes). code.Holds (code.updated (aes k) s.code p) (aes u.start) (covered u.joined ++ p)) (sym its.its-key)
+        subst (λ (k : Bytes). code.Holds (code.updated (aes k) s.code p) (aes u.start) (covered u.joined ++ p)) (sym its.its_key)
         (updated-holds (aes u.start) s.code (covered u.joined) p (its.chained l)) in
         stands s.header mac r
         (take_all (length (u.joined ++ p)) s.header (omega arith)
@@ -149,11 +149,11 @@ module _ (u : Underway) (b : u.begun ≡ true) (p : Bytes) where
             ∙ sym (covered-append (u.joined ++ a) rest (omega arith))
             ∙ ap covered (sym all_is) in
             let one : code.Holds (code.updated E code.nothing_taken (covered header)) E (covered header) =
-            updated-holds E code.nothing_taken [] (covered header) (nothing_holds E) in
+            updated-holds E code.nothing_taken [] (covered header) (nothing-holds E) in
             let held : code.Holds mac E (covered header ++ rest) =
             updated-holds E (code.updated E code.nothing_taken (covered header)) (covered header) rest one in
             let kept : code.Holds mac (aes u.start) (covered header ++ rest) =
-            subst (λ (k : Bytes). code.Holds mac (aes k) (covered header ++ rest)) its.its-key held in
+            subst (λ (k : Bytes). code.Holds mac (aes k) (covered header ++ rest)) its.its_key held in
             stands header mac lh
             (take_all (length (u.joined ++ p)) header (omega arith)
             ∙ header_is

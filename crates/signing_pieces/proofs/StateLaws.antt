@@ -13,7 +13,7 @@ use Rattle.octets.specs.Numbers.{bytes_at, little_endian}
 use Rattle.octets.specs.Same.{same_bytes}
 use Rattle.octets.proofs.BoolLaws.{and_true}
 use Rattle.cmac.specs.Running as code
-use Rattle.cmac.proofs.AnyState.{finished_is}
+use Rattle.cmac.proofs.AnyState.{finished-is}
 use Rattle.protocol.specs.Bytes.{Bytes}
 use Rattle.protocol.specs.Answer.{Answer, done, refused, answer_number, when_done, Test, first_else, first_of}
 use Rattle.protocol.specs.Ciphers.{aes}
@@ -31,7 +31,7 @@ use Rattle.protocol.proofs.CallLaws.{lines_return, lines_return_done, number-lin
 use Rattle.protocol.proofs.FirstOf.{first-append}
 use Rattle.protocol.proofs.Judging.{passes, line}
 use Rattle.protocol.proofs.SignedBytes.{flagged_append, flag-there}
-use Rattle.protocol.proofs.SuiteLaws.{cmac_is}
+use Rattle.protocol.proofs.SuiteLaws.{cmac-is}
 use Rattle.signing_pieces.specs.declared.SignState.{SignState}
 use Rattle.signing_pieces.specs.Running.{takes, covered, no_message, begun_under, joined_by, joined_else, signature_from, compared_number, step_with}
 use Rattle.signing_pieces.specs.Running.{UnderWay, StandsFor}
@@ -56,9 +56,9 @@ begin_number : (key : Bytes) → answer_number (answer suite (sign_beginning key
 unfolding tests
 begin_number key = number-lines (signing_key_tests key) 0
 
-pub no_message-stands : StandsFor no_message not_begun
+pub no-message-stands : StandsFor no_message not_begun
 unfolding no_message
-no_message-stands =
+no-message-stands =
     record {
       flag = refl;
       count = refl;
@@ -89,7 +89,7 @@ begin_hands_on key = go (eqb (length key) 16) refl
     go false e =
         record {
           number = sym (begin_number key ∙ ap (λ (b : Bool). cond (not b) 40 0) e);
-          stands = rw (begin_left key false e) no_message-stands;
+          stands = rw (begin_left key false e) no-message-stands;
         }
 
 -- ____ a piece
@@ -134,10 +134,10 @@ module _ (s : SignState) (u : Underway) (h : StandsFor s u) where
       where
         go : (b : Bool) → u.begun ≡ b → b ≡ true
         go true e = refl
-        go false e = let z : length u.joined ≡ 0 = ap length (h.no-message e) in absurd (omega arith)
+        go false e = let z : length u.joined ≡ 0 = ap length (h.without_message e) in absurd (omega arith)
 
     its : UnderWay s u.start u.joined
-    its = h.under-way long-begun
+    its = h.under_way long-begun
 
     pub header_is : s.header ≡ take 64 u.joined
     header_is = let size = its.room in sym (take_all (length u.joined) s.header (omega arith)) ∙ its.front
@@ -170,9 +170,9 @@ module _ (s : SignState) (u : Underway) (h : StandsFor s u) where
     unfolding signature_from signature_of signature_under covered
     signature-is =
         let way = its in
-        ap (λ (k : Bytes). code.finished (aes k) s.code) way.its-key
-        ∙ finished_is (aes u.start) s.code (covered u.joined) (way.chained long)
-        ∙ sym (cmac_is u.start (covered u.joined))
+        ap (λ (k : Bytes). code.finished (aes k) s.code) way.its_key
+        ∙ finished-is (aes u.start) s.code (covered u.joined) (way.chained long)
+        ∙ sym (cmac-is u.start (covered u.joined))
 
   -- ____ the finish
 
@@ -183,7 +183,7 @@ module _ (s : SignState) (u : Underway) (h : StandsFor s u) where
       go true e = ap₂ (λ (x : Bool) (n : ℕ). x || ltb n 64) (not-true (eqb s.begun 0) (h.flag ∙ e)) h.count
       go false e =
           ap (λ (x : Bool). x || ltb s.length 64) (not-false (eqb s.begun 0) (h.flag ∙ e))
-          ∙ sym (ap (λ (m : Bytes). ltb (length m) 64) (h.no-message e))
+          ∙ sym (ap (λ (m : Bytes). ltb (length m) 64) (h.without_message e))
 
   -- 11, 12, and else what is said of a message that is long enough
   joined_else_lem : (n k : ℕ) → (64 ≤ length u.joined → n ≡ k) → joined_else s n ≡ first_else (joined_tests u) k

@@ -17,7 +17,7 @@ use runs::copy;
 // struct smb3seal_sign_state, a message under way: any bytes are a state. The first 64 joined bytes are kept as they came, since the flag
 // and the signature may be cut anywhere; the code takes them in once they are all there. No message is under way where `begun` is 0.
 #[repr(C)]
-#[derive(Drop)]
+#[derive(Clone, Copy)]
 pub struct SignState {
     key: [u8; 16],
     header: [u8; 64],
@@ -28,7 +28,7 @@ pub struct SignState {
 
 // struct smb3seal_sign_step: the state handed back, and the number of RULES 2.
 #[repr(C)]
-#[derive(Drop)]
+#[derive(Clone, Copy)]
 pub struct SignStep {
     pub state: SignState,
     pub number: u32,

@@ -20,13 +20,13 @@ use session_record::{Adding, Session};
 // How many records a table has.
 pub const RECORDS: usize = 16;
 
-#[derive(Drop)]
+#[derive(Clone, Copy)]
 pub struct Table {
     pub records: [Session; RECORDS],
 }
 
 // What adding gives: the number of RULES 2, and the table after it.
-#[derive(Drop)]
+#[derive(Clone, Copy)]
 pub struct ChangedIn {
     pub number: u32,
     pub table: Table,

@@ -70,11 +70,11 @@ first-none (x ∷ y ∷ l) h = omega arith
 pub first_past : (l : List ℕ) (i : ℕ) → length l < i + 2 → 256 ≡ first_byte (drop i l)
 first_past l i h = sym (first-none (drop i l) (omega (arith, length-drop i l)))
 
-word_goes_on : (l : List ℕ) → first_byte l < 256 → bytes_of l ≡ first_byte l ∷ bytes_of (drop 2 l)
+word_goes-on : (l : List ℕ) → first_byte l < 256 → bytes_of l ≡ first_byte l ∷ bytes_of (drop 2 l)
 unfolding first_byte bytes_of
-word_goes_on [] h = absurd (omega arith)
-word_goes_on (x ∷ []) h = absurd (omega arith)
-word_goes_on (x ∷ y ∷ l) h = rw (lt-ltb (pair x y) 256 h)
+word_goes-on [] h = absurd (omega arith)
+word_goes-on (x ∷ []) h = absurd (omega arith)
+word_goes-on (x ∷ y ∷ l) h = rw (lt-ltb (pair x y) 256 h)
 
 word_ends : (l : List ℕ) → 256 ≤ first_byte l → bytes_of l ≡ []
 unfolding first_byte bytes_of
@@ -122,7 +122,7 @@ reading_turn {line} {out₀} {out} {at} {n} {i} {b} {b'} s test e =
     let t : take (n + 1) (set out n (b % 256)) ≡ take n out ++ (b ∷ []) =
     ap (λ (k : ℕ). take k (set out n (b % 256))) (add-one n) ∙ take-suc-set out n (b % 256) l ∙ ap (λ (x : ℕ). take n out ++ (x ∷ [])) m in
     let w : bytes_of (drop i line) ≡ b ∷ bytes_of (drop (i + 2) line) =
-    word_goes_on (drop i line) (omega (arith, s.next)) ∙ ap₂ (λ (x : ℕ) (r : List ℕ). x ∷ bytes_of r) (sym s.next) (drop-drop 2 i line) in
+    word_goes-on (drop i line) (omega (arith, s.next)) ∙ ap₂ (λ (x : ℕ) (r : List ℕ). x ∷ bytes_of r) (sym s.next) (drop-drop 2 i line) in
     record {
       bound = omega arith;
       size = length-set out n (b % 256) ∙ s.size;
@@ -243,8 +243,8 @@ counting_end {line} {out} {b} {at} {len} {next} {n} {i} s h r =
 -- ____ equality
 
 -- a line that is not longer than the name
-pub begins_not : (line name : List ℕ) → length line ≤ length name → false ≡ begins line name
-begins_not line name h = sym (rw (le-ltb (length name) (length line) h))
+pub begins-not : (line name : List ℕ) → length line ≤ length name → false ≡ begins line name
+begins-not line name h = sym (rw (le-ltb (length name) (length line) h))
 
 pub begins_if : {r : Bool} (line name : List ℕ) → length name < length line → r ≡ same_bytes (take (length name) line) name → r ≡ begins line name
 begins_if line name h e = e ∙ sym (rw (lt-ltb (length name) (length line) h))
@@ -285,22 +285,22 @@ and_assoc : (a b c : Bool) → (a && b && c) ≡ (a && (b && c))
 and_assoc true b c = refl
 and_assoc false b c = refl
 
-same_append : (a b c d : List ℕ) → length a ≡ length b → (same_bytes a b && same_bytes c d) ≡ same_bytes (a ++ c) (b ++ d)
+same-append : (a b c d : List ℕ) → length a ≡ length b → (same_bytes a b && same_bytes c d) ≡ same_bytes (a ++ c) (b ++ d)
 unfolding same_bytes
-same_append [] [] c d e = refl
-same_append [] (y ∷ b) c d e = absurd (omega arith)
-same_append (x ∷ a) [] c d e = absurd (omega arith)
-same_append (x ∷ a) (y ∷ b) c d e =
+same-append [] [] c d e = refl
+same-append [] (y ∷ b) c d e = absurd (omega arith)
+same-append (x ∷ a) [] c d e = absurd (omega arith)
+same-append (x ∷ a) (y ∷ b) c d e =
     let q : length a ≡ length b = omega arith in
-    and_assoc (eqb x y) (same_bytes a b) (same_bytes c d) ∙ ap (λ (t : Bool). eqb x y && t) (same_append a b c d q)
+    and_assoc (eqb x y) (same_bytes a b) (same_bytes c d) ∙ ap (λ (t : Bool). eqb x y && t) (same-append a b c d q)
 
 -- n bytes of one, and the k behind them of another
-pub same_joined : {p q : Bool} (n k : ℕ) (m a b : List ℕ) → length m ≡ n + k → length a ≡ n + k → length b ≡ n + k → p ≡ same_bytes (take n m) (take n a)
+pub same-joined : {p q : Bool} (n k : ℕ) (m a b : List ℕ) → length m ≡ n + k → length a ≡ n + k → length b ≡ n + k → p ≡ same_bytes (take n m) (take n a)
     → q ≡ same_bytes (take k (drop n m)) (take k (drop n b)) → (p && q) ≡ same_bytes m (take n a ++ drop n b)
-same_joined n k m a b lm la lb ep eq =
+same-joined n k m a b lm la lb ep eq =
     let l : length (take n m) ≡ length (take n a) = length-take n m ∙ ap (min n) (lm ∙ sym la) ∙ sym (length-take n a) in
     let rm : take k (drop n m) ≡ drop n m = take_all k (drop n m) (omega (arith, length-drop n m)) in
     let rb : take k (drop n b) ≡ drop n b = take_all k (drop n b) (omega (arith, length-drop n b)) in
     ap₂ ◌&&◌ ep (eq ∙ ap₂ same_bytes rm rb)
-    ∙ same_append (take n m) (take n a) (drop n m) (drop n b) l
+    ∙ same-append (take n m) (take n a) (drop n m) (drop n b) l
     ∙ ap (λ (l : List ℕ). same_bytes l (take n a ++ drop n b)) (take-append-drop n m)

@@ -7,7 +7,7 @@ ghost use Rattle.trace_format.specs.Records.{bit};
 ghost use Rattle.trace_format.specs.Layouts.{IsEdition};
 
 // The weight of the length's lowest bit, below which are the zero bits, and the longest payload.
-#[derive(Drop)]
+#[derive(Clone, Copy)]
 pub struct Layout {
     pub unit: usize,
     pub longest: usize,

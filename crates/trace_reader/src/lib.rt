@@ -8,7 +8,7 @@ ghost use Rattle.trace_reader.specs.Answers.{file_reading_of, head_reading_of, r
 use big_endian::u32_at;
 use trace_format::{admits, layout_of};
 
-#[derive(Drop)]
+#[derive(Clone, Copy)]
 pub enum FileHead {
     Good {
         edition: u8,
@@ -19,7 +19,7 @@ pub enum FileHead {
     Unreadable,
 }
 
-#[derive(Drop)]
+#[derive(Clone, Copy)]
 pub enum Head {
     // len is the length of the payload.
     Good {
@@ -31,7 +31,7 @@ pub enum Head {
     Unreadable,
 }
 
-#[derive(Drop)]
+#[derive(Clone, Copy)]
 pub enum Read {
     // The payload is len bytes from start on; the next record begins at next.
     Record {

@@ -211,8 +211,8 @@ module _ (e : Edition) (f : Bytes) where
         let z = no_pieces e f p h in
         let a : length (kept_bytes (pieces e (drop p f))) ≡ 0 = ap (λ (ps : List Piece). length (kept_bytes ps)) z in
         let b : gap_count (pieces e (drop p f)) ≡ 0 = ap gap_count z in
-        let x = m.bytes-all in
-        let y = m.gaps-all in
+        let x = m.bytes_all in
+        let y = m.gaps_all in
         record { kept = omega arith; gaps = omega arith }
 
     module _ (here : p < length f) (c : Cut) (cut : Cuts e f p c) where
@@ -221,8 +221,8 @@ module _ (e : Edition) (f : Bytes) where
           let l = ap length (kept-bytes e f p here c cut q) ∙ length-append (take c.len (drop p f)) (kept_bytes (pieces e (drop (p + c.len) f))) in
           let k = b-length e f p here c cut in
           let g = kept-count e f p here c cut q in
-          let x = m.bytes-all in
-          let y = m.gaps-all in
+          let x = m.bytes_all in
+          let y = m.gaps_all in
           let s = m.small in
           let t = m.few in
           let i = cut.inside in
@@ -232,8 +232,8 @@ module _ (e : Edition) (f : Bytes) where
       measure_dropped q =
           let l = ap length (dropped-bytes e f p here c cut q) in
           let g = dropped-count e f p here c cut q in
-          let x = m.bytes-all in
-          let y = m.gaps-all in
+          let x = m.bytes_all in
+          let y = m.gaps_all in
           let s = m.small in
           let t = m.few in
           let i = cut.inside in
@@ -279,10 +279,10 @@ module _ (e : Edition) (f room₀ list₀ : Bytes) where
     place-ends h =
         let z = no_pieces e f p h in
         record {
-          bytes = paste-zero room w [] ∙ ap (λ (ps : List Piece). paste room w (kept_bytes ps) (length (kept_bytes ps))) (sym z) ∙ m.room-due;
+          bytes = paste-zero room w [] ∙ ap (λ (ps : List Piece). paste room w (kept_bytes ps) (length (kept_bytes ps))) (sym z) ∙ m.room_due;
           gaps =
               paste-zero list (2 * k) [] ∙ ap (λ (ps : List Piece). paste list (2 * k) (gap_numbers p ps) (length (gap_numbers p ps))) (sym z)
-              ∙ m.list-due;
+              ∙ m.list_due;
         }
 
     module _ (here : p < length f) (c : Cut) (cut : Cuts e f p c) where
@@ -319,8 +319,8 @@ module _ (e : Edition) (f room₀ list₀ : Bytes) where
                 ap₂ (λ (x : Bytes) (i : ℕ). paste x (w + i) (kept_bytes left) (length (kept_bytes left))) er (sym lb)
                 ∙ paste_two room w piece (kept_bytes left) (omega arith)
                 ∙ ap (λ (x : Bytes). paste room w x (length x)) (sym (kept-bytes e f p here c cut q))
-                ∙ m.room-due;
-            list_due = ap (λ (x : List ℕ). paste list (2 * k) x (length x)) (sym (kept_numbers e f p here c cut q)) ∙ m.list-due;
+                ∙ m.room_due;
+            list_due = ap (λ (x : List ℕ). paste list (2 * k) x (length x)) (sym (kept_numbers e f p here c cut q)) ∙ m.list_due;
           }
 
       -- the part of the file as the code lends it
@@ -358,10 +358,10 @@ module _ (e : Edition) (f room₀ list₀ : Bytes) where
             list_left = omega arith;
             room-length = m.room-length;
             list_length = omega arith;
-            room_due = ap (λ (x : Bytes). paste room w x (length x)) (sym (dropped-bytes e f p here c cut q)) ∙ m.room-due;
+            room_due = ap (λ (x : Bytes). paste room w x (length x)) (sym (dropped-bytes e f p here c cut q)) ∙ m.room_due;
             list_due =
                 ap₂ (λ (x : Bytes) (i : ℕ). paste x i rest (length rest)) el k2
                 ∙ paste_two list (2 * k) a rest (omega arith)
                 ∙ ap (λ (x : Bytes). paste list (2 * k) x (length x)) (sym (dropped_numbers e f p here c cut q))
-                ∙ m.list-due;
+                ∙ m.list_due;
           }

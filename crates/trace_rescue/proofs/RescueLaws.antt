@@ -19,8 +19,8 @@ use Rattle.trace_rescue.specs.declared.Rescuing.TheVariants.{Done, Refused}
 
 -- ____ the room
 
-pub no_head : (k g n m : ℕ) → n < 4 → false ≡ (leb (4 + k) n && leb (2 * g) m)
-no_head k g n m h = rw (lt-leb (4 + k) n (omega arith))
+pub no-head : (k g n m : ℕ) → n < 4 → false ≡ (leb (4 + k) n && leb (2 * g) m)
+no-head k g n m h = rw (lt-leb (4 + k) n (omega arith))
 
 pub both_fit : (k g n m : ℕ) → 4 ≤ n → (leb k (n - 4) && leb g (m / 2)) ≡ (leb (4 + k) n && leb (2 * g) m)
 both_fit k g n m h =

@@ -7,7 +7,7 @@ ghost use Rattle.trace_rescue.specs.Answers.{Cuts};
 use protocol_id::begins;
 use trace_reader::{Read, read_record};
 
-#[derive(Drop)]
+#[derive(Clone, Copy)]
 pub struct Cut {
     pub good: bool,
     pub len: usize,

@@ -21,7 +21,7 @@ use Rattle.trace_places.specs.Places.{place_behind, reading_number}
 use Rattle.trace_theorems.specs.Calls.{Room, write_head, write_list, accepted, Places, places_after, record_at, found_by}
 use Rattle.trace_theorems.specs.Traces.{file_of}
 use Rattle.trace_theorems.proofs.RoundTrip.{parts}
-use Rattle.trace_theorems.proofs.Lists.{stop, past, empty, read_on, read_stop, wrote, whole-file}
+use Rattle.trace_theorems.proofs.Lists.{stop, past, empty, read-on, read-stop, wrote, whole-file}
 
 -- ____ one call
 
@@ -74,7 +74,7 @@ module _ (f : Bytes) (e : Edition) where
       ap (turn f n l) (sym (at-end e f p x)) ∙ sym (empty (length (drop p f)) e (drop p f) (omega (arith, length-drop p f)))
   turn_found n l h ih false false qa qb =
       let p = l.at in
-      ap (turn f n l) (sym (at-unreadable e f p (leb-false (length f) p qa) qb)) ∙ sym (read_stop e (drop p f) qb)
+      ap (turn f n l) (sym (at-unreadable e f p (leb-false (length f) p qa) qb)) ∙ sym (read-stop e (drop p f) qb)
   turn_found n l h ih false true qa qb =
       let p = l.at in
       let s : Bytes = drop p f in
@@ -82,7 +82,7 @@ module _ (f : Bytes) (e : Edition) where
       ap (turn f n l) (sym (at-readable e f p qb))
       ∙ turn_on f e l n qb
       ∙ ap₂ before (same_record f e l) (ih (after f e l) (omega arith) ∙ ap (read_all e) (sym (drop-drop (size_in e s) p f)))
-      ∙ sym (read_on e s qb)
+      ∙ sym (read-on e s qb)
 
   found_from : ((p : ℕ) → read_in f p ≡ read_at e f p) → (n : ℕ) (l : Places) → length f ≤ l.at + n → found_by n f l ≡ read_all e (drop l.at f)
   unfolding found_by

@@ -49,12 +49,12 @@ four_less : (a b c d : ℕ) → a < 256 → b < 256 → c < 256 → d < 256 → 
 unfolding big_endian_after
 four_less a b c d ha hb hc hd = omega arith
 
-pub head_same : {s : Bytes} → Octets s → 4 ≤ length s → (to_big_endian 4 (head_in s) ≡ take 4 s) × (head_in s < 4294967296)
-head_same none h = absurd (omega arith)
-head_same (more a none) h = absurd (omega arith)
-head_same (more a (more b none)) h = absurd (omega arith)
-head_same (more a (more b (more c none))) h = absurd (omega arith)
-head_same (more {x = x} a (more {x = y} b (more {x = z} c (more {x = w} d o)))) h = (four_same x y z w a b c d, four_less x y z w a b c d)
+pub head-same : {s : Bytes} → Octets s → 4 ≤ length s → (to_big_endian 4 (head_in s) ≡ take 4 s) × (head_in s < 4294967296)
+head-same none h = absurd (omega arith)
+head-same (more a none) h = absurd (omega arith)
+head-same (more a (more b none)) h = absurd (omega arith)
+head-same (more a (more b (more c none))) h = absurd (omega arith)
+head-same (more {x = x} a (more {x = y} b (more {x = z} c (more {x = w} d o)))) h = (four_same x y z w a b c d, four_less x y z w a b c d)
 
 pub octets_drop : (n : ℕ) {s : Bytes} → Octets s → Octets (drop n s)
 octets_drop zero o = o
@@ -77,28 +77,28 @@ pub record Sound (e : Edition) : Type 0 where
   pub written_read : (k b n : ℕ) → k ≤ 3 → b ≤ 1 → 1 ≤ n → n ≤ e.longest
       → let h = k * 536870912 + b * 268435456 + n * e.unit in
       (h < 4294967296) × (kind_in h ≡ k) × (h / 268435456 % 2 ≡ b) × (length_in e h ≡ n) × (h % e.unit ≡ 0)
-  pub read_written : (h : ℕ) → h < 4294967296 → h % e.unit ≡ 0
+  pub read-written : (h : ℕ) → h < 4294967296 → h % e.unit ≡ 0
       → kind_in h * 536870912 + h / 268435456 % 2 * 268435456 + length_in e h * e.unit ≡ h
 
 sound_1 : Sound edition1
 sound_1 =
     record {
       written_read = λ k b n hk hb h1 hn. (omega arith, omega arith, omega arith, omega arith, omega arith);
-      read_written = λ h l z. omega arith;
+      read-written = λ h l z. omega arith;
     }
 
 sound_2 : Sound edition2
 sound_2 =
     record {
       written_read = λ k b n hk hb h1 hn. (omega arith, omega arith, omega arith, omega arith, omega arith);
-      read_written = λ h l z. omega arith;
+      read-written = λ h l z. omega arith;
     }
 
 sound_none : Sound no_edition
 sound_none =
     record {
       written_read = λ k b n hk hb h1 hn. absurd (omega arith);
-      read_written = λ h l z. omega arith;
+      read-written = λ h l z. omega arith;
     }
 
 pub sound : (n : ℕ) → Sound (edition_of n)
@@ -120,7 +120,7 @@ parts e k n t =
 
 -- what was written is read, whatever stands behind it
 pub record Reads (e : Edition) (r : Record) (rest : Bytes) : Type 0 where
-  pub is_readable : readable e (record_bytes e r ++ rest) ≡ true
+  pub is-readable : readable e (record_bytes e r ++ rest) ≡ true
   pub same : record_in e (record_bytes e r ++ rest) ≡ r
   pub size : size_in e (record_bytes e r ++ rest) ≡ length (record_bytes e r)
   pub behind : drop (size_in e (record_bytes e r ++ rest)) (record_bytes e r ++ rest) ≡ rest
@@ -186,7 +186,7 @@ module _ (e : Edition) (ok : Sound e) (r : Record) (rest : Bytes) (w : writable 
       let z = is-size in
       let b = length-bytes in
       record {
-        is_readable = rw (is-good) (le-leb (size_in e s) (length s) (omega arith));
+        is-readable = rw (is-good) (le-leb (size_in e s) (length s) (omega arith));
         same =
             λ i. record {
               kind = is-kind i;
@@ -212,7 +212,7 @@ unfolding record_in record_head
 stood e ok {s} o t =
     let g = readable-good e s t in
     let four = four_there e s g.0 in
-    let h = head_same o four in
+    let h = head-same o four in
     let i = g.1 in
     let n = length_in e (head_in s) in
     let payload : Bytes = take n (drop 4 s) in
@@ -230,9 +230,9 @@ stood e ok {s} o t =
     }
 
 -- what was read is admitted
-pub read_writable : (e : Edition) (s : Bytes) → readable e s ≡ true → writable e (record_in e s) ≡ true
+pub read-writable : (e : Edition) (s : Bytes) → readable e s ≡ true → writable e (record_in e s) ≡ true
 unfolding good_head record_in
-read_writable e s t =
+read-writable e s t =
     let g = readable-good e s t in
     let a = and_true (eqb (head_in s % e.unit) 0) (admitted e (kind_in (head_in s)) (length_in e (head_in s))) (and_true (leb 4 (length s)) _ g.0).1 in
     let i = g.1 in

@@ -14,7 +14,7 @@ use trace_format::{admits, bit_of, layout_of};
 // The edition of every record that is written.
 const WRITTEN: u8 = 2;
 
-#[derive(Drop)]
+#[derive(Clone, Copy)]
 pub enum Writing {
     // The place behind what was written.
     UpTo(usize),

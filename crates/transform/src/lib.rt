@@ -15,7 +15,7 @@ use answer::{Answer, refuse};
 use connection::Connection;
 
 // What sealing gives: the answer, and the counter handed back.
-#[derive(Drop)]
+#[derive(Clone, Copy)]
 pub struct Sealed {
     pub answer: Answer,
     pub counter: u64,

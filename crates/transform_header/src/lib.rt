@@ -5,7 +5,7 @@ ghost use Rattle.std.specs.Prelude.{◌≡◌};
 ghost use Rattle.protocol.specs.TransformHeader.{nonce_of, authenticated};
 ghost use Rattle.transform_header.specs.Reading.{header_from, header_in};
 
-#[derive(Drop)]
+#[derive(Clone, Copy)]
 pub struct TransformHeader {
     pub begins: bool,
     pub signature: [u8; 16],

@@ -1,4 +1,4 @@
--- Right because each turn is one step of `walkOn`: the header was refused by its tests' number, is the last, or leads to the next, which is judged (WalkLaws).
+-- Right because each turn is one step of `walk_on`: the header was refused by its tests' number, is the last, or leads to the next, which is judged (WalkLaws).
 -- Assumes nothing.
 use Rattle.compound.proofs.WalkLaws.{Judged, first_judged, next_judged, ends}
 use borrow.Author.Rules.{rules}

@@ -4,7 +4,7 @@ use mathlib.Core.Path.{◌≡◌, sym}
 use native.Mathlib.Omega.{arith}
 use lib.ListN.{length}
 use lib.Seq.{length-take-le}
-use Rattle.fold_pieces.proofs.HeadLaws.{head_is}
+use Rattle.fold_pieces.proofs.HeadLaws.{head-is}
 use borrow.Author.Rules.{rules}
 use Rattle.fold_pieces.proofs.head_with.Statement.{statement}
 use Rattle.fold_pieces.proofs.head_with.Tie as tie
@@ -31,7 +31,7 @@ returns c =
     let at = c.before.before.before.before.before.at_most in
     let s = c.before.before.before.before.before.before.before in
     let a = s.args in
-    head_is a.head a.piece.now a.joined at.ensures n.ensures c.before.copy.ensures
+    head-is a.head a.piece.now a.joined at.ensures n.ensures c.before.copy.ensures
 
 pub head-with-spec : {M : Type 1} → statement M
 head-with-spec =

@@ -4,7 +4,7 @@ use mathlib.Core.List.{List, ◌++◌}
 use lib.ListN.{length, replicate}
 use Prim.Native.Nat.{ℕ, ◌+◌}
 use borrow.Author.Rules.{rules}
-use Rattle.octets.proofs.Pairs.{block_is}
+use Rattle.octets.proofs.Pairs.{block-is}
 use Rattle.octets.proofs.Paste.{two_runs}
 use Rattle.ghash.proofs.element_block.Statement.{statement}
 use Rattle.ghash.proofs.element_block.Tie as tie
@@ -20,7 +20,7 @@ returns c =
     two_runs (replicate 16 0) high.u64-bytes.result low.u64-bytes2.result first.copy.new.0 _ 8 la (ap (λ (n : ℕ). 8 + n) (sym lb))
     first.copy.ensures c.before.copy2.ensures
     ∙ ap₂ (λ (x y : List ℕ). x ++ y) high.u64-bytes.ensures low.u64-bytes2.ensures
-    ∙ block_is e.hi e.lo (search rules)
+    ∙ block-is e.hi e.lo (search rules)
 
 pub element-block-spec : {M : Type 1} → statement M
 element-block-spec =

@@ -7,7 +7,7 @@ use lib.ListN.{length, replicate, length-map}
 use Rattle.protocol.specs.Preauth.{fresh_chain}
 use Rattle.protocol.specs.SessionTable as protocol
 use Rattle.session_record.specs.Reading.{free}
-use Rattle.session_record.proofs.StoredLaws.{free_read}
+use Rattle.session_record.proofs.StoredLaws.{free-read}
 use Rattle.session_table.specs.Reading.{table_of}
 use Rattle.lab_rules.specs.Steps.{State}
 use borrow.Author.Rules.{rules}
@@ -20,7 +20,7 @@ returns c =
     let none = c.empty.result.records in
     let all : length none ≡ 16 = sym (length-map none _) ∙ c.empty.type-inv.1.1.0.1.0.1 in
     ap {B = State} (λ (t : List protocol.Session). record { dialect = a.dialect; cipher = a.cipher; connection = fresh_chain; session = fresh_chain; table = t })
-    (ap table_of (c.empty.ensures ∙ ap (λ (n : ℕ). replicate n free) all) ∙ ap (λ (s : protocol.Session). replicate 16 s) free_read)
+    (ap table_of (c.empty.ensures ∙ ap (λ (n : ℕ). replicate n free) all) ∙ ap (λ (s : protocol.Session). replicate 16 s) free-read)
 
 pub fresh-spec : {M : Type 1} → statement M
 fresh-spec = tie.close (tie.spec (λ c κs. search rules) returns)

@@ -1,6 +1,6 @@
 -- Right because each return is one way out of the definition, and only the last touches the chain: its 64 bytes are the new value.
 -- Assumes nothing.
-use Rattle.preauth.proofs.FoldLaws.{refused_40, refused_23, left_out, folded_in, fold_tests_lem, fold_leaves, fold_puts, limits}
+use Rattle.preauth.proofs.FoldLaws.{refused_40, refused_23, left_out, folded-in, fold_tests_lem, fold_leaves, fold_puts, limits}
 use Rattle.protocol.specs.Calls.{folding, only_chain}
 use Rattle.octets.proofs.Paste.{paste_all}
 use borrow.Author.Tests.{not-true, not-false}
@@ -55,7 +55,7 @@ returns-4 c =
     let m = a.message.now in
     λ kind agrees.
     let b = sym (agrees fits) ∙ not-false _ past.if3.false in
-    folded_in (folding kind m) (only_chain v) kind m (fold_tests_lem kind v m) past.before.before.before.if1.false fits _ b (fold_puts kind v m _ b value)
+    folded-in (folding kind m) (only_chain v) kind m (fold_tests_lem kind v m) past.before.before.before.if1.false fits _ b (fold_puts kind v m _ b value)
 
 pub fold-if-spec : {M : Type 1} → statement M
 fold-if-spec =

@@ -11,9 +11,9 @@ use Rattle.octets.proofs.Paste.{part_all}
 use Rattle.aes.specs.BlockCipher.{block_cipher, expanded_key}
 use Rattle.cmac.specs.Cmac as rfc4493
 use Rattle.cmac.proofs.Beginning.{new_holds}
-use Rattle.cmac.proofs.AnyState.{takes_in, ends_with}
+use Rattle.cmac.proofs.AnyState.{takes-in, ends_with}
 use Rattle.protocol.specs.Signing.{with_signature, signature_under}
-use Rattle.protocol.proofs.SuiteLaws.{cmac_is}
+use Rattle.protocol.proofs.SuiteLaws.{cmac-is}
 use Rattle.signing.proofs.SigningLaws.{taken_in}
 use borrow.Author.Rules.{rules}
 use Rattle.signing.proofs.signature.Statement.{statement}
@@ -43,11 +43,11 @@ returns c =
     let same_key : keys.expand-key.result ≡ expanded_key key =
     keys.expand-key.ensures ∙ ap expanded_key (keys.before.bytes-16.ensures ∙ take_all 16 key (le_of_eq st.requires.0)) in
     let begun = new_holds _ new.new.ensures E in
-    ends_with _ c.finish.ensures (takes_in _ _ c.before.before.update2.ensures (takes_in _ _ one.update.ensures begun))
+    ends_with _ c.finish.ensures (takes-in _ _ c.before.before.update2.ensures (takes-in _ _ one.update.ensures begun))
     ∙ ap (rfc4493.cmac E)
     (taken_in m header.copy.new.0 _ (length-take-le 48 m (omega (arith, st.requires.1))) header.copy.ensures (part_all m 64))
     ∙ ap (λ (k : List (List ℕ)). rfc4493.cmac (block_cipher k) (with_signature (replicate 16 0) m)) same_key
-    ∙ sym (cmac_is key (with_signature (replicate 16 0) m))
+    ∙ sym (cmac-is key (with_signature (replicate 16 0) m))
 
 pub signature-spec : {M : Type 1} → statement M
 signature-spec =

@@ -1,4 +1,4 @@
--- Right because within the table the record is copied out, and past the end `vacant` makes a free one, which is what `recordAt` says there.
+-- Right because within the table the record is copied out, and past the end `vacant` makes a free one, which is what `record_at` says there.
 use mathlib.Core.Path.{sym, ◌∙◌}
 use borrow.Author.Rules.{rules}
 use native.Mathlib.Omega.{arith}

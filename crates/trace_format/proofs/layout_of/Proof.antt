@@ -1,4 +1,4 @@
--- Right because each return is the line of `editionOf` that its tests pick.
+-- Right because each return is the line of `edition_of` that its tests pick.
 -- Assumes nothing.
 use native.Mathlib.Omega.{arith}
 use mathlib.Core.Path.{refl}

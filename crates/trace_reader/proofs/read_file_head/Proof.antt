@@ -1,4 +1,4 @@
--- Right because each return stands under the tests of `readFileHead` (FormatLaws).
+-- Right because each return stands under the tests of `read_file_head` (FormatLaws).
 -- Assumes nothing.
 use native.Mathlib.Omega.{arith}
 use Rattle.trace_format.proofs.FormatLaws.{file-short, file_unknown, file-good}

@@ -1,4 +1,4 @@
--- Right because each return stands under the tests of `writeAnswer` (WriteLaws).
+-- Right because each return stands under the tests of `write_answer` (WriteLaws).
 -- Assumes nothing.
 use Rattle.trace_format.specs.Format.{edition_of}
 use Rattle.trace_format.specs.Records.{written_edition}

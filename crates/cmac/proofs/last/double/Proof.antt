@@ -6,7 +6,7 @@ use native.Mathlib.Omega.{arith}
 use lib.ListN.{get_or}
 use mir.Syntax.{w8}
 use mir.Val.{Fits}
-use Rattle.cmac.proofs.Doubling.{doubled_is}
+use Rattle.cmac.proofs.Doubling.{doubled-is}
 use borrow.Author.Rules.{rules}
 use Rattle.cmac.proofs.last.double.Statement.{statement}
 use Rattle.cmac.proofs.last.double.Tie as tie
@@ -18,7 +18,7 @@ mul-r : tie.Need-overflow-mul-r
 mul-r c = let f = first_byte c.before in omega arith
 
 returns : tie.Need-returns
-returns c = doubled_is c.before.args.t1 c.shifted.result _ c.shifted.ensures (first_byte c.before) refl
+returns c = doubled-is c.before.args.t1 c.shifted.result _ c.shifted.ensures (first_byte c.before) refl
 
 pub double-spec : {M : Type 1} → statement M
 double-spec =

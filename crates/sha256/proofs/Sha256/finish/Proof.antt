@@ -4,7 +4,7 @@ use Rattle.std.proofs.Common.{◌≡◌, ◌%◌, length, take, sym, ◌∙◌, 
 use lib.ListN.{length-map}
 use Rattle.sha_2.specs.Sha256.{sha256}
 use Rattle.sha_2.proofs.Streaming.{length_part, holds-end}
-use Rattle.sha256.proofs.LowBits.{same_padding}
+use Rattle.sha256.proofs.LowBits.{same-padding}
 use Rattle.sha256.proofs.Sha256.finish.Statement.{statement}
 use Rattle.sha256.proofs.Sha256.finish.Tie as tie
 
@@ -36,7 +36,7 @@ returns c =
     let t = c.before.before.before.padded in
     let e = c.before.before.before.before.before.padded-length in
     λ m s.
-    holds-end sha256 t.result e.result (lit< tt) (same_padding (length m) s.counted) t.ensures
+    holds-end sha256 t.result e.result (lit< tt) (same-padding (length m) s.counted) t.ensures
     (omega (arith, t.type-inv.1.0.1, e.ensures.2)) e.ensures.1 c.before.hash-blocks.ensures c.digest.ensures s
 
 pub finish_spec : {M : Type 1} → statement M

@@ -15,11 +15,11 @@ returns c =
     let read = c9.before.read-in.ensures in
     record {
       number = c.read_number.ensures ∙ ap reading_number read;
-      its_place = c9.next-to.ensures ∙ ap (λ (x : Reading). next_to x a.at.now) read;
-      its_kind = c5.before.before.kind-to.ensures ∙ ap (λ (x : Reading). kind_to x a.kind.now) read;
+      its-place = c9.next-to.ensures ∙ ap (λ (x : Reading). next_to x a.at.now) read;
+      its-kind = c5.before.before.kind-to.ensures ∙ ap (λ (x : Reading). kind_to x a.kind.now) read;
       its_direction = c5.from-server-to.ensures ∙ ap (λ (x : Reading). from_server_to x a.from-server.now) read;
-      its_payload = c.before.before.before.payload-to.ensures ∙ ap (λ (x : Reading). payload_to x a.payload.now) read;
-      its_length = c.before.length_to.ensures ∙ ap (λ (x : Reading). length_to x a.payload-len.now) read;
+      its-payload = c.before.before.before.payload-to.ensures ∙ ap (λ (x : Reading). payload_to x a.payload.now) read;
+      its-length = c.before.length_to.ensures ∙ ap (λ (x : Reading). length_to x a.payload-len.now) read;
     }
 
 pub smb3seal-trace-read-spec : {M : Type 1} → statement M

@@ -15,8 +15,8 @@ returns c =
     record {
       number = c.head-number.ensures ∙ ap file_number read;
       its_edition = past.edition-to.ensures ∙ ap (λ (x : FileReading). edition_to x a.edition.now) read;
-      its_dialect = c.before.before.before.dialect-to.ensures ∙ ap (λ (x : FileReading). dialect_to x a.dialect.now) read;
-      its_cipher = c.before.cipher-to.ensures ∙ ap (λ (x : FileReading). cipher_to x a.cipher.now) read;
+      its-dialect = c.before.before.before.dialect-to.ensures ∙ ap (λ (x : FileReading). dialect_to x a.dialect.now) read;
+      its-cipher = c.before.cipher-to.ensures ∙ ap (λ (x : FileReading). cipher_to x a.cipher.now) read;
     }
 
 pub smb3seal-trace-read-head-spec : {M : Type 1} → statement M

@@ -15,8 +15,8 @@ returns c =
       number = c.rescue-number.ensures ∙ ap rescue_number done.answer;
       bytes = done.bytes;
       listed = done.gaps;
-      its_size = c.before.before.before.written-to.ensures ∙ ap (λ (x : Rescued). written_to x a.written.now) done.answer;
-      its_count = c.before.gaps-to.ensures ∙ ap (λ (x : Rescued). gaps_to x a.count.now) done.answer;
+      its-size = c.before.before.before.written-to.ensures ∙ ap (λ (x : Rescued). written_to x a.written.now) done.answer;
+      its-count = c.before.gaps-to.ensures ∙ ap (λ (x : Rescued). gaps_to x a.count.now) done.answer;
     }
 
 pub smb3seal-trace-rescue-spec : {M : Type 1} → statement M

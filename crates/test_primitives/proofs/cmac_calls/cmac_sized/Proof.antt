@@ -6,7 +6,7 @@ use Prim.Native.Nat.{ℕ}
 use Rattle.aes.specs.BlockCipher.{block_cipher, expanded_key}
 use Rattle.cmac.specs.Cmac as rfc4493
 use Rattle.cmac.proofs.Beginning.{new_holds}
-use Rattle.cmac.proofs.AnyState.{takes_in, ends_with}
+use Rattle.cmac.proofs.AnyState.{takes-in, ends_with}
 use Rattle.test_primitives.proofs.Laws.{whole}
 use borrow.Author.Rules.{rules}
 use Rattle.test_primitives.proofs.cmac_calls.cmac_sized.Statement.{statement}
@@ -19,7 +19,7 @@ returns c =
     let s = x.before.before.before.before.before in
     let k = x.expand-key.ensures ∙ ap expanded_key (whole 16 s.args.key.now _ s.requires x.before.bytes-16.ensures) in
     let begun = new_holds _ one.before.before.new.ensures _ in
-    ends_with _ c.finish.ensures (takes_in _ _ c.before.before.update2.ensures (takes_in _ _ one.update.ensures begun))
+    ends_with _ c.finish.ensures (takes-in _ _ c.before.before.update2.ensures (takes-in _ _ one.update.ensures begun))
     ∙ ap (λ (keys : List (List ℕ)). rfc4493.cmac (block_cipher keys) (s.args.front.now ++ s.args.back.now)) k
 
 pub cmac-sized-spec : {M : Type 1} → statement M

@@ -1,4 +1,4 @@
--- Right because each return stands under the tests of `isFound` (CutLaws).
+-- Right because each return stands under the tests of `is_found` (CutLaws).
 -- Assumes nothing.
 use mathlib.Core.Path.{sym, ap, ◌∙◌}
 use native.Mathlib.Omega.{arith}

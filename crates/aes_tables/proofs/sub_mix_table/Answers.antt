@@ -2,12 +2,8 @@
 use mathlib.Core.Path.{refl}
 use Rattle.rijndael.specs.Field.{sbox, affine, inverse, even_powers, mul, products, xtimes, rotated}
 use Rattle.aes_tables.proofs.TableLaws.{sub_mix_table}
-use Rattle.aes_tables.proofs.sub_mix_table.Tie as tie
-use Rattle.aes_tables.proofs.sub_mix_table.Statement.{statement}
+use Rattle.aes_tables.proofs.sub_mix_table.Goals as goal
 
-returns : tie.Need-returns
+pub returns : goal.returns
 unfolding sbox affine inverse even_powers mul products xtimes rotated
 returns c = sub_mix_table refl tt
-
-pub sub-mix-table-spec : {M : Type 1} → statement M
-sub-mix-table-spec = tie.close (tie.spec returns)

@@ -3,16 +3,12 @@ use mathlib.Core.Path.{refl}
 use Rattle.rijndael.specs.Cipher.{add_round_key, state}
 use Rattle.aes_words.specs.Words.{state_of, bytes_of}
 use Rattle.aes_words.proofs.WordLaws.{begins, xor, own}
-use Rattle.aes_rounds.proofs.add_round_key.Tie as tie
-use Rattle.aes_rounds.proofs.add_round_key.Statement.{statement}
+use Rattle.aes_rounds.proofs.add_round_key.Goals as goal
 
-returns : tie.Need-returns
+pub returns : goal.returns
 unfolding state_of bytes_of add_round_key state
 returns c =
-    let s = c.before.before.before.before.before.before.before.before.args.s in
-    let k = c.before.before.before.before.before.before.before.before.args.k in
+    let s = c.args.s in
+    let k = c.args.k in
     begins (xor (own s.c0) (own k.c0))
     (begins (xor (own s.c1) (own k.c1)) (begins (xor (own s.c2) (own k.c2)) (begins (xor (own s.c3) (own k.c3)) refl)))
-
-pub add-round-key-spec : {M : Type 1} → statement M
-add-round-key-spec = tie.close (tie.spec returns)

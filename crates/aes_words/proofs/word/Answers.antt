@@ -1,10 +1,6 @@
 -- Right because the shifted bytes do not overlap, so that `|` puts them side by side.
 use Rattle.aes_words.proofs.WordLaws.{joined}
-use Rattle.aes_words.proofs.word.Tie as tie
-use Rattle.aes_words.proofs.word.Statement.{statement}
+use Rattle.aes_words.proofs.word.Goals as goal
 
-returns : tie.Need-returns
+pub returns : goal.returns
 returns c = joined c.args.a c.args.b c.args.c c.args.d c.ranges.a.fits c.ranges.b.fits c.ranges.c.fits c.ranges.d.fits
-
-pub word-spec : {M : Type 1} → statement M
-word-spec = tie.close (tie.spec returns)

@@ -2,12 +2,8 @@
 use mathlib.Core.Path.{refl}
 use Rattle.rijndael.specs.Field.{sbox, affine, inverse, even_powers, mul, products, xtimes, rotated}
 use Rattle.aes_tables.proofs.TableLaws.{sub-bytes-table}
-use Rattle.aes_tables.proofs.sbox_table.Tie as tie
-use Rattle.aes_tables.proofs.sbox_table.Statement.{statement}
+use Rattle.aes_tables.proofs.sbox_table.Goals as goal
 
-returns : tie.Need-returns
+pub returns : goal.returns
 unfolding sbox affine inverse even_powers mul products xtimes rotated
 returns c = sub-bytes-table refl tt
-
-pub sbox-table-spec : {M : Type 1} → statement M
-sbox-table-spec = tie.close (tie.spec returns)

@@ -4,17 +4,13 @@ use Rattle.rijndael.specs.KeyExpansion.{word_of, xor_word}
 use Rattle.aes_key_expansion.specs.NextKey.{next_key, next_word}
 use Rattle.aes_words.specs.Words.{state_of, bytes_of}
 use Rattle.aes_words.proofs.WordLaws.{begins, xor, own}
-use Rattle.aes_key_expansion.proofs.next_columns.Tie as tie
-use Rattle.aes_key_expansion.proofs.next_columns.Statement.{statement}
+use Rattle.aes_key_expansion.proofs.next_columns.Goals as goal
 
-returns : tie.Need-returns
+pub returns : goal.returns
 unfolding state_of bytes_of next_key next_word word_of xor_word
 returns c =
-    let k = c.before.before.before.before.args.k in
-    let w0 = xor (own k.c0) (own c.before.before.before.before.args.v) in
+    let k = c.args.k in
+    let w0 = xor (own k.c0) (own c.args.v) in
     let w1 = xor (own k.c1) w0 in
     let w2 = xor (own k.c2) w1 in
     begins w0 (begins w1 (begins w2 (begins (xor (own k.c3) w2) refl)))
-
-pub next-columns-spec : {M : Type 1} → statement M
-next-columns-spec = tie.close (tie.spec returns)

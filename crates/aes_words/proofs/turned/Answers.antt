@@ -1,0 +1,6 @@
+-- Right because the shifts put the three low bytes above the top one.
+use Rattle.aes_words.proofs.WordLaws.{turned}
+use Rattle.aes_words.proofs.turned.Goals as goal
+
+pub returns : goal.returns
+returns c = turned c.args.x c.ranges.x.fits
