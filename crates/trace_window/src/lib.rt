@@ -86,6 +86,7 @@ fn judged(edition: u8, bytes: &[u8], ended: bool) -> Step
     Step::Read
 }
 
+#[tactic(auto, unfolding(crate::specs::Window::next_of))]
 pub fn next(edition: u8, c: Cursor, bytes: &[u8]) -> Step
     ensures { result ≡ window.next_of (edition_of edition) c bytes.now }
 {
@@ -102,6 +103,7 @@ pub fn next(edition: u8, c: Cursor, bytes: &[u8]) -> Step
 }
 
 // Of a record that is not held, as many bytes are passed over as there are.
+#[tactic(auto, unfolding(crate::specs::Window::passed))]
 fn passed(c: Cursor) -> Cursor
     ensures { result ≡ window.passed c }
 {
@@ -118,6 +120,7 @@ fn passed(c: Cursor) -> Cursor
 }
 
 // A record begins that is not held, with a payload of n bytes.
+#[tactic(auto, unfolding(crate::specs::Window::begun))]
 pub fn begun(c: Cursor, n: usize) -> Cursor
     ensures { result ≡ window.begun n c }
 {
@@ -147,6 +150,7 @@ pub fn move_up(bytes: &mut [u8], at: usize, have: usize) -> usize
 }
 
 // n bytes were read behind the first m; none at the end of the file.
+#[tactic(auto, unfolding(crate::specs::Window::took))]
 pub fn took(c: Cursor, m: usize, n: usize) -> Cursor
     ensures { result ≡ window.took m n c }
 {
