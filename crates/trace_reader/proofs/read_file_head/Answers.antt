@@ -1,0 +1,13 @@
+use Rattle.std.proofs.Common.{arith}
+use Rattle.trace_format.proofs.FormatLaws.{file-short, file_unknown, file-good}
+use Rattle.trace_reader.proofs.read_file_head.Goals as goal
+
+pub returns-then-b-lt4 : goal.returns-then-b-lt4
+returns-then-b-lt4 c = file-short c.args.b.now c.if-b-lt4.true
+
+pub returns-then-l-eq0 : goal.returns-then-l-eq0
+returns-then-l-eq0 c =
+    file_unknown c.args.b.now (omega arith) _ c.u32_at-h.ensures _ c.layout_of-l.ensures.longest c.if-l-eq0.true
+
+pub returns : goal.returns
+returns c = file-good c.args.b.now (omega arith) _ c.u32_at-h.ensures _ c.layout_of-l.ensures.longest c.if-l-eq0.false
