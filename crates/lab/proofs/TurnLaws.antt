@@ -8,15 +8,12 @@ use native.Mathlib.Omega.{arith}
 use borrow.Author.Tests.{lt-ltb, le-ltb}
 use lib.ListN.{length, take, drop, length-take, length-drop}
 use lib.Seq.{drop-drop}
-use types.Run.{OneOf, miss}
-use denote.Enum.Declared.{tag_of}
 use Rattle.octets.specs.Numbers.{bytes_at}
 use Rattle.protocol.specs.Bytes.{Bytes}
 use Rattle.trace_format.specs.Format.{Edition, Reading, found, end, unreadable, read_at}
 use Rattle.trace_reader.specs.Answers.{reading_of}
 use Rattle.trace_reader.specs.declared.Read.{Read}
 use Rattle.trace_reader.specs.declared.Read.TheVariants as at
-use Rattle.trace_reader.specs.contracts.Read.{the_type}
 use Rattle.trace_format.proofs.FormatLaws.{Was, not_end, admitted_24}
 use Rattle.lab_rules.specs.Steps.{State, Steps, step_number, step_state, step_payload}
 use Rattle.lab_rules.specs.Replay.{held, answered, long, outcome, state_after, file_after, place_after}
@@ -81,9 +78,9 @@ module _ (r : Reading) (l : Lab) (f : Bytes) (p : ℕ) where
         }
 
 -- a reading that is no record, of a place inside the file
-pub no_record : (e : Edition) (f : Bytes) (p : ℕ) (r : Read) → p < length f → reading_of r ≡ read_at e f p → OneOf (1 ∷ 2 ∷ []) (tag_of the_type r)
+pub no_record : (e : Edition) (f : Bytes) (p : ℕ) (r : Read) → p < length f → reading_of r ≡ read_at e f p → ((k : ℕ) (d : Bool) (start n next : ℕ) → r ≡ at.Record k d start n next → ⊥)
     → unreadable ≡ read_at e f p
-no_record e f p (at.Record k d start n next) h t o = absurd (miss (1 ∷ 2 ∷ []) 0 tt o)
+no_record e f p (at.Record k d start n next) h t o = absurd (o k d start n next refl)
 no_record e f p at.End h t o = absurd (not_end e f p h t)
 no_record e f p at.Unreadable h t o = t
 

@@ -1,7 +1,7 @@
 -- Four bytes compared one by one.
 -- Assumes nothing.
 use mathlib.Core.Path.{◌≡◌, refl, sym, ap, ◌∙◌}
-use mathlib.Core.Bool.{Bool, true, false, ◌&&◌, and_true}
+use mathlib.Core.Bool.{Bool, true, false, ◌&&◌, and-true}
 use mathlib.Core.List.{List, [], ◌∷◌}
 use Prim.Native.Nat.{ℕ, suc, ◌+◌, ◌-◌, ◌≤◌, ◌<◌}
 use native.Mathlib.Numerals.{add-one}
@@ -28,7 +28,7 @@ pub four_same : (m : List ℕ) (p a b c d : ℕ) → p + 4 ≤ length m
     (a ∷ b ∷ c ∷ d ∷ [])
 unfolding same_bytes
 four_same m p a b c d h =
-    sym (ap (λ (x : List ℕ). same_bytes x (a ∷ b ∷ c ∷ d ∷ [])) (four m p h) ∙ rw (and_true (eqb (get_or m (p + 3) 0) d)))
+    sym (ap (λ (x : List ℕ). same_bytes x (a ∷ b ∷ c ∷ d ∷ [])) (four m p h) ∙ rw (and-true (eqb (get_or m (p + 3) 0) d)))
 
 -- fewer bytes are none of four
 pub four_none : (m : List ℕ) (p a b c d : ℕ) → length m < p + 4 → false ≡ same_bytes (bytes_at p 4 m) (a ∷ b ∷ c ∷ d ∷ [])

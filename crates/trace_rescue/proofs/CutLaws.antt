@@ -3,7 +3,7 @@
 use mathlib.Core.Path.{◌≡◌, refl, sym, ap, ap₂, ◌∙◌}
 use mathlib.Core.Bool.{Bool, true, false, cond, ◌&&◌}
 use mathlib.Core.Logic.{◌⊎◌, inl, inr}
-use mathlib.Core.List.{[], ◌∷◌}
+use mathlib.Core.List.{◌∷◌}
 use Prim.Native.Nat.{ℕ, suc, ◌+◌, ◌-◌, ◌<◌, ◌≤◌}
 use native.Mathlib.Numerals.{add-one}
 use native.Mathlib.Omega.{arith}
@@ -11,13 +11,10 @@ use borrow.Author.Tests.{leb-true}
 use lib.Dec.{leb}
 use lib.ListN.{length, take, drop, get_or, length-drop, drop_of_length-le}
 use lib.Seq.{drop-cons, drop-drop}
-use types.Run.{OneOf, miss}
-use denote.Enum.Declared.{tag_of}
 use Rattle.trace_format.specs.Format.{Bytes, Edition, size_in, readable, Reading, found, end, unreadable, read_at}
 use Rattle.trace_reader.specs.Answers.{reading_of}
 use Rattle.trace_reader.specs.declared.Read.{Read}
 use Rattle.trace_reader.specs.declared.Read.TheVariants as at
-use Rattle.trace_reader.specs.contracts.Read.{the_type}
 use Rattle.trace_format.proofs.FormatLaws.{Was, readable-good}
 use Rattle.trace_rescue.specs.Rescue.{begins_message, is_found, passed}
 
@@ -43,9 +40,9 @@ module _ (e : Edition) (f : Bytes) (p : ℕ) where
       by false q = refl
 
   -- it was no record
-  pub was_not : (r : Read) → reading_of r ≡ read_at e f p → OneOf (1 ∷ 2 ∷ []) (tag_of the_type r) → readable e (drop p f) ≡ false
+  pub was_not : (r : Read) → reading_of r ≡ read_at e f p → ((k : ℕ) (d : Bool) (start n next : ℕ) → r ≡ at.Record k d start n next → ⊥) → readable e (drop p f) ≡ false
   unfolding read_at
-  was_not (at.Record k d start n next) t o = absurd (miss (1 ∷ 2 ∷ []) 0 tt o)
+  was_not (at.Record k d start n next) t o = absurd (o k d start n next refl)
   was_not at.End t o = ended (leb (length f) p) (readable e (drop p f)) end _ _ _ _ _ (λ q. none_left (leb-true (length f) p q)) (inl refl) (sym t)
   was_not at.Unreadable t o =
       ended (leb (length f) p) (readable e (drop p f)) unreadable _ _ _ _ _ (λ q. none_left (leb-true (length f) p q)) (inr refl) (sym t)

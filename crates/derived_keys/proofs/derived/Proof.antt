@@ -8,7 +8,7 @@ use Rattle.derived_keys.proofs.derived.Tie as tie
 returns : tie.Need-returns
 returns c =
     let a = c.before.before.before.before.before.args in
-    derived_311 a.dialect a.cipher a.chain.now a.material.now _ _ c.before.before.is_IsWide.ensures c.before.if1.true c.keys-311.ensures
+    derived_311 a.dialect a.cipher a.chain.now a.material.now _ _ c.before.before.is-wide.ensures c.before.if1.true c.keys-311.ensures
 
 returns-2 : tie.Need-returns-2
 returns-2 c =

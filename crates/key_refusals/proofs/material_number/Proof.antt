@@ -11,7 +11,7 @@ returns c =
     let line19 = known.before in
     let limit = line19.before in
     let size = limit.before in
-    c.refuse2.ensures ∙ rw (known.known-dialect.ensures, line19.refuse.ensures, limit.longest-material.ensures, size.is_IsWide.ensures)
+    c.refuse2.ensures ∙ rw (known.known-dialect.ensures, line19.refuse.ensures, limit.longest-material.ensures, size.is-wide.ensures)
 
 pub material-number-spec : {M : Type 1} → statement M
 material-number-spec =

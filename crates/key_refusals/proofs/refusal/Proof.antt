@@ -6,7 +6,7 @@ use Rattle.key_refusals.proofs.refusal.Statement.{statement}
 use Rattle.key_refusals.proofs.refusal.Tie as tie
 
 returns : tie.Need-returns
-returns c = c.refuse.ensures ∙ rw (c.before.material-number.ensures, c.before.before.place-bytes.ensures, c.before.before.before.is_IsWide.ensures)
+returns c = c.refuse.ensures ∙ rw (c.before.material-number.ensures, c.before.before.place-bytes.ensures, c.before.before.before.is-wide.ensures)
 
 pub refusal-spec : {M : Type 1} → statement M
 refusal-spec = tie.close (tie.spec (λ c κs. search rules) (λ c κs. search rules) (λ c κs. search rules) (λ c κs. search rules) returns)

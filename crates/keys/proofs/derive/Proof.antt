@@ -16,15 +16,15 @@ returns c =
 write-requires : tie.Need-write-requires
 write-requires c κs =
     let a = c.before.before.before.before.before.before.before.before.before.args in
-    place-fits a.dialect a.cipher a.chain.now a.material.now a.keys.now _ c.before.before.before.before.refusal.ensures _ c.before.before.is_IsWide.ensures
+    place-fits a.dialect a.cipher a.chain.now a.material.now a.keys.now _ c.before.before.before.before.refusal.ensures _ c.before.before.is-wide.ensures
     c.before.before.before.if1.false
 
 returns-2 : tie.Need-returns-2
 returns-2 c =
     let a = c.before.before.before.before.before.before.before.before.before.before.before.before.args in
-    filled a.dialect a.cipher a.chain.now a.material.now a.keys.now _ c.before.before.before.before.before.before.before.refusal.ensures _ _ c.before.before.before.before.before.is_IsWide.ensures
+    filled a.dialect a.cipher a.chain.now a.material.now a.keys.now _ c.before.before.before.before.before.before.before.refusal.ensures _ _ c.before.before.before.before.before.is-wide.ensures
     c.before.before.before.before.before.before.if1.false
-    (c.before.before.write.ensures ∙ ap (λ k. keys_in_order (keys_in c.before.before.before.before.before.is_IsWide.result k)) c.before.before.before.derived.ensures)
+    (c.before.before.write.ensures ∙ ap (λ k. keys_in_order (keys_in c.before.before.before.before.before.is-wide.result k)) c.before.before.before.derived.ensures)
 
 pub derive-spec : {M : Type 1} → statement M
 derive-spec = tie.close (tie.spec (λ c κs. search rules) (λ c. search rules) returns (λ c κs. search rules) (λ c κs. search rules) write-requires (λ c. search rules) returns-2)

@@ -2,7 +2,7 @@ use Rattle.octets.proofs.Paste.{paste_turn}
 use lib.Seq.{paste, paste-zero}
 use lib.ListN.{length, length-set}
 use native.Mathlib.Omega.{arith}
-use Prim.Native.Nat.{◌-◌, ◌+◌}
+use Prim.Native.Nat.{◌+◌}
 use mathlib.Core.Path.{◌≡◌, refl, ap, ◌∙◌}
 use Rattle.runs.proofs.copy.Goals as goal
 

@@ -1,4 +1,6 @@
-use Rattle.std.proofs.Common.{arith}
+-- Right because each return stands under the tests of `read_file_head` (FormatLaws).
+-- Assumes nothing.
+use native.Mathlib.Omega.{arith}
 use Rattle.trace_format.proofs.FormatLaws.{file-short, file_unknown, file-good}
 use Rattle.trace_reader.proofs.read_file_head.Goals as goal
 
@@ -7,7 +9,10 @@ returns-then-b-lt4 c = file-short c.args.b.now c.if-b-lt4.true
 
 pub returns-then-l-eq0 : goal.returns-then-l-eq0
 returns-then-l-eq0 c =
-    file_unknown c.args.b.now (omega arith) _ c.u32_at-h.ensures _ c.layout_of-l.ensures.longest c.if-l-eq0.true
+    let f = c.args.b.now in
+    file_unknown f (omega arith) _ c.u32_at-h.ensures _ c.layout_of-l.ensures.longest c.if-l-eq0.true
 
 pub returns : goal.returns
-returns c = file-good c.args.b.now (omega arith) _ c.u32_at-h.ensures _ c.layout_of-l.ensures.longest c.if-l-eq0.false
+returns c =
+    let f = c.args.b.now in
+    file-good f (omega arith) _ c.u32_at-h.ensures _ c.layout_of-l.ensures.longest c.if-l-eq0.false

@@ -13,7 +13,7 @@ unfolding record_with
 returns c =
     let a = c.before.before.before.before.before.before.before.before.before.before.before.args.a in
     let k = c.before.before.before.before.before.before.before.before.before.before.before.args.k in
-    let size = c.bit3.ensures ∙ ap bit_of c.before.before.before.before.before.before.before.before.before.is_IsWide.ensures in
+    let size = c.bit3.ensures ∙ ap bit_of c.before.before.before.before.before.before.before.before.before.is-wide.ensures in
     λ j. record {
       id = a.id;
       counter = 0;

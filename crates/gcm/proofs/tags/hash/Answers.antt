@@ -1,0 +1,14 @@
+-- Right because hashing the parts one after the other hashes the one string that they make.
+use mathlib.Core.Path.{ap, ◌∙◌}
+use Rattle.octets.specs.Numbers.{to_big_endian}
+use Rattle.gcm.proofs.HashParts.{hash_parts}
+use Rattle.gcm.proofs.tags.hash.Goals as goal
+
+pub returns : goal.returns
+returns c =
+    let args = c.args in
+    λ h k.
+    c.block_of.ensures
+    ∙ ap (to_big_endian 16)
+    (hash_parts h args.aad.now args.body.now _ _ _ _
+    c.start.ensures (c.update-y.ensures h k) (c.update-z.ensures h k) (c.update_lengths-s.ensures h k))

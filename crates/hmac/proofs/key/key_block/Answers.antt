@@ -1,0 +1,20 @@
+-- Right because the test is the one of the definition.
+-- Assumes nothing.
+use Prim.Native.Nat.{ℕ}
+use mathlib.Core.Path.{sym, ap, ◌∙◌}
+use mathlib.Core.List.{List}
+use borrow.Author.Tests.{le-leb, lt-leb}
+use Rattle.octets.specs.Blocks.{zero_padded}
+use Rattle.hmac.specs.Hmac.{key_block}
+use Rattle.hmac.proofs.key.key_block.Goals as goal
+
+pub returns-then-key-le64 : goal.returns-then-key-le64
+unfolding key_block
+returns-then-key-le64 c = c.zero_padded.ensures ∙ sym (simp (le-leb _ _ c.if-key-le64.true))
+
+pub returns : goal.returns
+unfolding key_block
+returns c =
+    c.zero_padded-2.ensures
+    ∙ ap (λ (l : List ℕ). zero_padded 64 l) c.hash-h.ensures
+    ∙ sym (simp (lt-leb _ _ c.if-key-le64.false))

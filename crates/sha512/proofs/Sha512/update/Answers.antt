@@ -1,0 +1,32 @@
+-- Right because each way makes of the fields what the definition makes of them.
+-- Assumes nothing.
+use Rattle.std.proofs.Common.{◌≡◌, length, sym, ◌∙◌, arith, length-take-le}
+use lib.ListN.{length-map}
+use Rattle.sha512.proofs.AnyState.{updated-within, updated-beyond}
+use Rattle.sha512.proofs.Sha512.update.Goals as goal
+
+pub copy-requires : goal.copy-requires
+copy-requires c = let r = (let it : length c.args.self.buffer ≡ 128 = c.well_formed.0.1.1.1.0.1.0.1 in it) in omega arith
+
+pub returns-then-piece-room : goal.returns-then-piece-room
+returns-then-piece-room c =
+    let t = c.if-piece-room.true in
+    let n = c.wrapping_add_u64-count.ensures.value in
+    let a = c.args in
+    updated-within a.self a.piece.now n t c.copy.ensures
+
+pub slice_bounds-copy-end-3 : goal.slice_bounds-copy-end-3
+slice_bounds-copy-end-3 c =
+    sym (length-take-le _ c.args.piece.now c.if-piece-room.false)
+
+pub copy-requires-2 : goal.copy-requires-2
+copy-requires-2 c =
+    let r = (let it : length c.args.self.buffer ≡ 128 = c.well_formed.0.1.1.1.0.1.0.1 in it) in
+    omega (arith, length-take-le _ c.args.piece.now c.if-piece-room.false)
+
+pub returns : goal.returns
+returns c =
+    let n = c.wrapping_add_u64-count.ensures.value in
+    let a = c.args in
+    updated-beyond a.self a.piece.now n c.if-piece-room.false c.copy-2.ensures c.buffer-3-1.given c.hash_blocks-first.ensures
+    c.hash_blocks.ensures c.copy-3.ensures

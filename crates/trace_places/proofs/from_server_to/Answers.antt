@@ -1,0 +1,12 @@
+-- Right because a record says it, and the other readings leave what was lent, or say 0.
+-- Assumes nothing.
+use mathlib.Core.Path.{sym, ap, ◌∙◌}
+use Rattle.trace_reader.specs.Answers.{reading_of}
+use Rattle.trace_reader.specs.declared.Read.{Read}
+use Rattle.trace_places.specs.Places.{from_server_to}
+use Rattle.trace_places.proofs.from_server_to.Goals as goal
+
+pub returns-in-Record : goal.returns-in-Record
+returns-in-Record c =
+    let a = c.args in
+    c.bit_of.ensures ∙ ap (λ (x : Read). from_server_to (reading_of x) a.lent) (sym c.in-Record.is)

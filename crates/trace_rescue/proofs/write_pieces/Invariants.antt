@@ -1,0 +1,13 @@
+-- Right because after each turn what is left to write, written now, gives what is due (PieceLaws).
+-- Assumes nothing.
+use Prim.Native.Nat.{◌-◌}
+use lib.ListN.{length}
+use Rattle.trace_format.specs.Format.{edition_of}
+use Rattle.trace_rescue.proofs.PieceLaws.{Placing}
+use Rattle.trace_rescue.proofs.write_pieces.Given as goal
+
+abbrev pub invariant-loop-p : goal.invariant-loop-p
+invariant-loop-p l = Placing (edition_of l.edition) l.file l.initial.room l.initial.list l.p l.w l.k l.room l.list
+
+abbrev pub decreases-loop-p : goal.decreases-loop-p
+decreases-loop-p l = length l.file - l.p
