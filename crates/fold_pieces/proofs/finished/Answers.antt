@@ -1,0 +1,7 @@
+-- Right because each field is what the answer says.
+-- Assumes nothing.
+use mathlib.Core.Path.{refl}
+use Rattle.fold_pieces.proofs.finished.Goals as goal
+
+pub returns : goal.returns
+returns c = rw (c.ended.ensures, c.number.ensures, c.mark_to.ensures) refl

@@ -1,0 +1,32 @@
+-- Right because a wrong tag leaves the text alone, and a later refusal is followed by the key stream that restores it (Opening).
+use mathlib.Core.Bool.{not}
+use mathlib.Core.Path.{ap}
+use mathlib.Core.Path.{sym, ◌∙◌}
+use borrow.Author.Tests.{not-true, not-false}
+use Rattle.compound.specs.Reading.{envelope_of}
+use Rattle.transform_header.specs.Reading.{header_from}
+use Rattle.transform.proofs.Opening.{tag_wrong, restored, opened}
+use Rattle.transform.proofs.body.open_body.Goals as goal
+
+pub returns-then-not-open : goal.returns-then-not-open
+returns-then-not-open c =
+    let a = c.args in
+    tag_wrong a.cipher a.key.now (header_from a.h) (envelope_of a.e) a.text.now _ _ c.«open».ensures
+    (not-true _ (ap not c.if-not-open.true))
+
+pub returns-then-refused : goal.returns-then-refused
+returns-then-refused c =
+    let a = c.args in
+    let h = header_from a.h in
+    restored a.cipher a.key.now h (envelope_of a.e) a.text.now _ _ c.«open».ensures
+    (not-false _ (ap not c.if-not-open.false))
+    _ c.size_then_walk-out.ensures (sym c.refused.ensures ∙ c.if-refused.true) _
+    (c.apply.ensures h.authenticated_data)
+
+pub returns-else-refused : goal.returns-else-refused
+returns-else-refused c =
+    let a = c.args in
+    let h = header_from a.h in
+    opened a.cipher a.key.now h (envelope_of a.e) a.text.now _ _ c.«open».ensures
+    (not-false _ (ap not c.if-not-open.false)) _
+    c.size_then_walk-out.ensures (sym c.refused.ensures ∙ c.if-refused.false)
