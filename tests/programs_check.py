@@ -18,7 +18,7 @@ import time
 
 import trace_model as model
 
-CALLS = ("openat", "read", "write", "close", "rename", "unlink", "fchmod", "lseek")
+CALLS = ("openat", "read", "write", "fsync", "close", "rename", "unlink", "fchmod", "lseek")
 checks = 0
 
 
@@ -265,7 +265,7 @@ def rescue_faults(rescue, work, error):
         (code, out, err), _ = straced(command, ["-e", f"inject={name}:error={error}:when={number}"], work)
         whole = f.left() == ["output"] and f.rescued() == expected
         if err == "":
-            # only a close of what is no longer needed may fail unheard
+            # only a close may fail unheard: what was written is on the disk before (fsync)
             expect(name == "close" and whole and out == lines, "a fault that nobody hears of", name, number, text, out)
             continue
         seen.append(name)
@@ -273,7 +273,7 @@ def rescue_faults(rescue, work, error):
             expect(name == "write" and whole and said(rescue, err), "lines that cannot be written", out, err, f.left())
         else:
             expect(out == "" and f.left() == [] and said(rescue, err), "a fault that leaves something", name, number, text, out, err, f.left())
-    expect({"openat", "read", "write", "close", "rename"} <= set(seen), "faults that were not tried", seen)
+    expect({"openat", "read", "write", "fsync", "rename"} <= set(seen), "faults that were not tried", seen)
     return len(seen)
 
 

@@ -1,92 +1,177 @@
-// Files as the programs of lab traces use them: each function here makes a call or two of the kit's libraries. Which bytes a file gives and
+// Files as the programs of lab traces use them: each function here makes a call or two of the library. Which bytes a file gives and
 // where they go no contract can say; what becomes of what is lent, these do.
 #![tactic(auto)]
 
-ghost use Rattle.std.specs.Prelude.{◌≤◌, length};
+ghost use Rattle.std.specs.Prelude.{◌≤◌, length, IfOk};
 ghost use Rattle.program_files.specs.Reads.{ReadsBehind, Gathers};
 
-use libc::{STDERR_FILENO, STDOUT_FILENO};
+use std::env::{Env, FillError};
+use std::fs::{OpenFile, OpenOptions};
+use std::io::{Cursor, ErrorKind, Print, Read, Write};
+use std::os::unix::fs::OpenOptionsExt;
+use std::rt::Files;
+use std::{fs, io, str};
 
-// What a read gave: how many bytes, none at the end of the file; or that it failed.
-#[derive(Drop)]
-pub struct Got {
-    pub n: usize,
-    pub failed: bool,
-}
+// The system's numbers of two errors: a name that is too long, and bytes that are no text.
+pub const NAME_TOO_LONG: i32 = 36;
 
-fn read_once(fd: i32, room: &mut [u8]) -> Got
-    ensures { result.n ≤ length room.new }
-{
-    let got = libc::read(fd, room);
-    let n = io::count(got, room);
-    Got {
-        n: n,
-        failed: got < 0,
-    }
-}
+const NO_TEXT: i32 = 84;
 
-// Reads once behind the window's first `have` bytes. A window without room counts as a read that failed, and not as the end.
-pub fn read_behind(fd: i32, window: &mut [u8], have: usize) -> Got
+// Reads once behind the window's first `have` bytes: how many came, none at the end of the file. A window without room counts as a read
+// that failed, and not as the end.
+pub fn read_behind<R: Read>(file: &mut R, window: &mut [u8], have: usize) -> io::Result<usize>
     ensures { ReadsBehind window.old have result window.new }
 {
     if window.len() <= have {
-        return Got { n: 0, failed: true };
+        return Err(io::Error::from(ErrorKind::InvalidInput));
     }
-    read_once(fd, &mut window[have..])
+    file.read(&mut window[have..])
 }
 
-// The window's first `have` bytes were read; then the file ended, or a read failed, or neither.
+// The window's first `have` bytes were read; then the file ended, or not.
 #[derive(Drop)]
 pub struct Gathered {
     pub have: usize,
     pub ended: bool,
-    pub failed: bool,
 }
 
-// Reads from the window's start on until n bytes are there.
-pub fn gather(fd: i32, window: &mut [u8], n: usize) -> Gathered
-    ensures { Gathers n result window.new }
+// Reads from the window's start on until n bytes are there. Where a read fails, the window holds what came before it.
+pub fn gather<R: Read>(file: &mut R, window: &mut [u8], n: usize) -> io::Result<Gathered>
+    ensures { IfOk result (λ r. Gathers n r window.new) }
 {
     let mut have: usize = 0;
     while have < n {
-        let got = read_behind(fd, window, have);
-        let more = got.n;
+        let more = read_behind(file, window, have)?;
         if more == 0 {
-            return Gathered {
-                have: have,
-                ended: !got.failed,
-                failed: got.failed,
-            };
+            return Ok(Gathered { have, ended: true });
         }
         have += more;
     }
-    Gathered {
-        have: have,
-        ended: false,
-        failed: false,
-    }
+    Ok(Gathered { have, ended: false })
 }
 
-// A line on standard error: the program, what failed, and why.
-pub fn fail(program: &[u8], what: &[u8]) {
-    io::write_all(STDERR_FILENO, program);
-    io::write_all(STDERR_FILENO, b": ");
-    os::fail(what);
+// Where the words of an error end: the system's number, which the library puts behind them in parentheses, is left out.
+fn words_end(text: &[u8]) -> usize
+    ensures { result ≤ length text.now }
+{
+    let mut end = text.len();
+    for (i, b) in text.iter().enumerate() {
+        if *b == b'(' {
+            end = i.saturating_sub(1);
+        }
+    }
+    end
 }
 
-// Writes to standard output: whether all of it was taken. If not, that is said.
-pub fn show(program: &[u8], text: &[u8]) -> bool {
-    let all = io::write_all(STDOUT_FILENO, text);
-    if !all {
-        fail(program, b"standard output");
+// The error in the library's form, put at the start of the room: how many bytes. What has no room is left out.
+fn put_error(error: io::Error, room: &mut [u8]) -> usize {
+    let mut text = Cursor::new(room);
+    let _ = write!(text, "{error}");
+    text.position() as usize
+}
+
+// The words for an error, put at the start of the room: how many bytes they are.
+fn reason(error: io::Error, room: &mut [u8]) -> usize
+    ensures { result ≤ length room.new }
+{
+    let n = put_error(error, room).min(room.len());
+    if error.raw_os_error().is_none() {
+        return n;
     }
-    all
+    words_end(&room[..n])
+}
+
+// A line on standard error: the program, what failed, and why. Where it cannot be written, nobody is told.
+pub fn fail(to: &impl Print, program: &[u8], what: &[u8], error: io::Error) {
+    let mut room = [0u8; 256];
+    let n = reason(error, &mut room);
+    let _ = to.write_all(program);
+    let _ = to.write_all(b": ");
+    let _ = to.write_all(what);
+    let _ = to.write_all(b": ");
+    let _ = to.write_all(&room[..n]);
+    let _ = to.write_all(b"\n");
+}
+
+// Writes to standard output: whether all of it was taken. If not, that is said on standard error.
+pub fn show(out: &impl Print, to: &impl Print, program: &[u8], text: &[u8]) -> bool {
+    match out.write_all(text) {
+        Ok(()) => true,
+        Err(error) => {
+            fail(to, program, b"standard output", error);
+            false
+        }
+    }
 }
 
 // A line on standard error that is no failure of a call.
-pub fn say(program: &[u8], words: &[u8]) {
-    io::write_all(STDERR_FILENO, program);
-    io::write_all(STDERR_FILENO, b": ");
-    io::write_all(STDERR_FILENO, words);
-    io::write_all(STDERR_FILENO, b"\n");
+pub fn say(to: &impl Print, program: &[u8], words: &[u8]) {
+    let _ = to.write_all(program);
+    let _ = to.write_all(b": ");
+    let _ = to.write_all(words);
+    let _ = to.write_all(b"\n");
+}
+
+// ---- arguments and names
+
+// Whether the program was started with an argument of this number; 0 is its own name.
+pub fn has_argument(env: &impl Env, i: usize) -> bool {
+    let mut none = [0u8; 1];
+    !matches!(env.arg(i, &mut none), Err(FillError::NotPresent))
+}
+
+// An argument, put at the start of the room: how many bytes it has. One that is not there is the error of a file that is not there.
+pub fn argument(env: &impl Env, i: usize, room: &mut [u8]) -> io::Result<usize>
+    ensures { IfOk result (λ n. n ≤ length room.new) }
+{
+    match env.arg(i, room) {
+        Ok(n) => Ok(n),
+        Err(FillError::TooLong) => Err(io::Error::from_raw_os_error(NAME_TOO_LONG)),
+        Err(FillError::NotPresent) => Err(io::Error::from(ErrorKind::NotFound)),
+    }
+}
+
+// A name as the library takes it: one that is not UTF-8 names no file.
+fn text_of(name: &[u8]) -> io::Result<&str> {
+    match str::from_utf8(name) {
+        Ok(text) => Ok(text),
+        Err(_) => Err(io::Error::from_raw_os_error(NO_TEXT)),
+    }
+}
+
+// ---- files by their names
+
+pub fn open<R: Files>(files: &R, name: &[u8]) -> io::Result<R::File> {
+    fs::open(files, text_of(name)?)
+}
+
+// A new file that may be read by whom the process's mask lets; where the name is taken, an error.
+pub fn create<R: Files>(files: &R, name: &[u8]) -> io::Result<R::File> {
+    OpenOptions::new()
+        .write(true)
+        .create_new(true)
+        .open(files, text_of(name)?)
+}
+
+// The same, but nobody other than its owner may read it, at no time.
+pub fn create_private<R: Files>(files: &R, name: &[u8]) -> io::Result<R::File> {
+    OpenOptions::new()
+        .write(true)
+        .create_new(true)
+        .mode(0o600)
+        .open(files, text_of(name)?)
+}
+
+// Writes the bytes to a file, and closes it. They are given to the disk before, since nobody is told of an error that comes with the close.
+pub fn fill<F: Write + OpenFile + Drop>(mut file: F, bytes: &[u8]) -> io::Result<()> {
+    file.write_all(bytes)?;
+    file.sync_all()
+}
+
+pub fn rename(files: &impl Files, from: &[u8], to: &[u8]) -> io::Result<()> {
+    fs::rename(files, text_of(from)?, text_of(to)?)
+}
+
+pub fn remove(files: &impl Files, name: &[u8]) -> io::Result<()> {
+    fs::remove_file(files, text_of(name)?)
 }

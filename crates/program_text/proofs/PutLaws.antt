@@ -1,18 +1,18 @@
 -- Runs of bytes, put one behind the other.
 -- Assumes nothing.
 use mathlib.Core.Path.{◌≡◌, refl, sym, ap, ap₂, subst, ◌∙◌}
-use mathlib.Core.Bool.{Bool, true, false, cond, not, ◌&&◌}
-use mathlib.Core.List.{List, [], ◌∷◌, ◌++◌}
-use Prim.Native.Nat.{ℕ, zero, suc, ◌+◌, ◌-◌, ◌*◌, ◌/◌, ◌<◌, ◌≤◌}
+use mathlib.Core.Bool.{Bool, true, false, cond, ◌&&◌}
+use mathlib.Core.List.{[], ◌++◌}
+use Prim.Native.Nat.{ℕ, ◌+◌, ◌-◌, ◌*◌, ◌/◌, ◌<◌, ◌≤◌}
 use native.Mathlib.Numerals.{add-one}
 use native.Mathlib.Omega.{arith}
-use borrow.Author.Tests.{leb-true, leb-false, le-leb, lt-leb, not-true, not-false}
+use borrow.Author.Tests.{leb-true, leb-false, le-leb, lt-leb}
 use lib.Dec.{leb}
 use lib.ListN.{length, take, drop, get_or, length-append}
 use lib.Seq.{paste, paste-zero, length-paste, take_at, drop_at, take-length}
 use Rattle.octets.proofs.BoolLaws.{and_true}
 use Rattle.octets.proofs.Paste.{paste_more}
-use Rattle.program_text.specs.Lines.{Bytes, decimal, two_numbers, gap_lines}
+use Rattle.program_text.specs.Lines.{Bytes, two_numbers, gap_lines}
 use Rattle.program_text.specs.Puts.{Put, PutIf, roomy, gaps_fit, PutGaps, PutLine}
 use Rattle.program_text.proofs.DecimalLaws.{length-decimal}
 
@@ -75,13 +75,6 @@ room-is text at h = by (leb at (length text - 42)) refl
     by true e = e ∙ sym (le-leb (at + 42) (length text) (let i = leb-true at (length text - 42) e in omega arith))
     by false e = e ∙ sym (lt-leb (at + 42) (length text) (let i = leb-false at (length text - 42) e in omega arith))
 
--- a test that was made and passed, or not
-pub passed : {r s : Bool} → r ≡ s → not r ≡ false → s ≡ true
-passed e t = sym e ∙ not-false _ t
-
-pub failed : {r s : Bool} → r ≡ s → not r ≡ true → s ≡ false
-failed e t = sym e ∙ not-true _ t
-
 pub room_le : (text : Bytes) (at : ℕ) → roomy text at ≡ true → at + 42 ≤ length text
 room_le text at e = leb-true (at + 42) (length text) e
 
@@ -104,14 +97,10 @@ by_2 n g = by (leb g (n / 2)) refl
 pub gaps_fit_lem : (text list gaps : ℕ) → (leb gaps (text / 42) && leb gaps (list / 2)) ≡ gaps_fit text list gaps
 gaps_fit_lem text list gaps = ap₂ ◌&&◌ (by_42 text gaps) (by_2 list gaps)
 
-gaps-room : (text list gaps : ℕ) → gaps_fit text list gaps ≡ true → (42 * gaps ≤ text) × (2 * gaps ≤ list)
+pub gaps-room : (text list gaps : ℕ) → gaps_fit text list gaps ≡ true → (42 * gaps ≤ text) × (2 * gaps ≤ list)
 gaps-room text list gaps e =
     let b = and_true (leb (42 * gaps) text) (leb (2 * gaps) list) e in
     (leb-true (42 * gaps) text b.0, leb-true (2 * gaps) list b.1)
-
-pub gaps-listed : {r : Bool} (text list : List ℕ) (gaps : ℕ) → r ≡ gaps_fit (length text) (length list) gaps → not r ≡ false
-    → (42 * gaps ≤ length text) × (2 * gaps ≤ length list)
-gaps-listed text list gaps e t = gaps-room (length text) (length list) gaps (passed e t)
 
 pub short : (a b : ℕ) → length (two_numbers a b) ≤ 42
 unfolding two_numbers

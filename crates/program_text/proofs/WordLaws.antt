@@ -1,26 +1,32 @@
 -- Words that are compared, and the folder of a path.
 -- Assumes nothing.
 use mathlib.Core.Path.{◌≡◌, refl, sym, ap, subst, ◌∙◌}
-use mathlib.Core.Bool.{Bool, true, false, cond}
-use mathlib.Core.List.{List, [], ◌∷◌, ◌++◌}
+use mathlib.Core.Bool.{Bool, true, false, cond, ◌&&◌}
+use mathlib.Core.List.{[], ◌∷◌, ◌++◌}
 use Prim.Native.Nat.{ℕ, ◌+◌, ◌-◌, ◌<◌, ◌≤◌}
 use native.Mathlib.Numerals.{add-one}
 use native.Mathlib.Omega.{arith}
 use borrow.Author.Tests.{le-leb, lt-leb}
-use lib.Dec.{eqb, leb}
+use lib.Dec.{eqb}
 use lib.ListN.{length, take, drop, get_or, length-append, drop_of_length-le}
 use lib.Seq.{drop-cons, take-length, length-take-le}
+use Rattle.std.specs.Str.{bytes_eq}
 use Rattle.io.specs.Counts.{IsPrefixLen}
 use Rattle.octets.specs.Same.{same_bytes}
-use Rattle.octets.proofs.SameLaws.{same_self, same_equal, decided}
 use Rattle.program_text.specs.Lines.{Bytes}
 use Rattle.program_text.specs.Words.{last_slash, folder_in, template, beside}
 use Rattle.program_text.specs.Puts.{Put, PutName}
 use Rattle.program_text.proofs.PutLaws.{put-length}
 
-pub compared : (r : Bool) (a b : Bytes) → (r ≡ true → a ≡ b) × (a ≡ b → r ≡ true) → r ≡ same_bytes a b
-compared r a b e =
-    decided r (same_bytes a b) (λ t. ap (λ (x : Bytes). same_bytes x b) (e.0 t) ∙ same_self b) (λ t. e.1 (same_equal a b t))
+equal_is : (a b : Bytes) → bytes_eq a b ≡ same_bytes a b
+unfolding same_bytes
+equal_is [] [] = refl
+equal_is [] (y ∷ b) = refl
+equal_is (x ∷ a) [] = refl
+equal_is (x ∷ a) (y ∷ b) = ap (λ (t : Bool). eqb x y && t) (equal_is a b)
+
+pub compared : {r : Bool} {b' : Bytes} (a b : Bytes) → r ≡ bytes_eq a b' → b' ≡ b → r ≡ same_bytes a b
+compared {r} {b'} a b e h = e ∙ equal_is a b' ∙ ap (same_bytes a) h
 
 -- ____ the last slash
 

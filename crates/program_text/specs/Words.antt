@@ -1,6 +1,6 @@
 -- The arguments that are no file, and the name of a file beside another.
 -- Assumes nothing.
-use Rattle.std.specs.Prelude.{Bool, cond, ◌||◌, List, [], ◌∷◌, ◌++◌, ℕ, ◌+◌, eqb, take}
+use Rattle.std.specs.Prelude.{Bool, cond, ◌||◌, [], ◌∷◌, ◌++◌, ℕ, ◌+◌, eqb, take}
 use Rattle.octets.specs.Same.{same_bytes}
 use Rattle.program_text.specs.Lines.{Bytes}
 

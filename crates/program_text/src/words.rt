@@ -5,18 +5,17 @@ ghost use Rattle.program_text.specs.Words.{asks_help, asks_version, folder_in};
 ghost use Rattle.program_text.specs.Puts.{PutName};
 
 use crate::lines::put;
-use check::same;
 
 pub fn asks_help(word: &[u8]) -> bool
     ensures { result ≡ asks_help word.now }
 {
-    same(word, b"--help") | same(word, b"-h")
+    (word == b"--help".as_slice()) | (word == b"-h".as_slice())
 }
 
 pub fn asks_version(word: &[u8]) -> bool
     ensures { result ≡ asks_version word.now }
 {
-    same(word, b"--version")
+    word == b"--version".as_slice()
 }
 
 // The place behind a slash, or the one that was found before.

@@ -9,18 +9,20 @@ ghost use Rattle.replay.specs.Turning.{is_turn};
 
 use program_files::read_behind;
 use program_text::{front, has_room, long_line, stop_line};
+use std::io;
+use std::io::Read;
 use trace_window::{Cursor, Step, begun, move_up, next, passed_over, took};
 
-pub fn complain(what: &[u8]) {
-    program_files::fail(b"smb3seal-replay", what);
+pub fn complain(rt: &HostRuntime, what: &[u8], error: io::Error) {
+    program_files::fail(&rt.stderr(), b"smb3seal-replay", what, error);
 }
 
-pub fn answer(words: &[u8]) -> bool {
-    program_files::show(b"smb3seal-replay", words)
+pub fn answer(rt: &HostRuntime, words: &[u8]) -> bool {
+    program_files::show(&rt.stdout(), &rt.stderr(), b"smb3seal-replay", words)
 }
 
 // The cursor; how many bytes of lines wait to be written; and whether the replay has ended, stopped or failed.
-#[derive(Drop)]
+#[derive(Clone, Copy)]
 pub struct Progress {
     pub cursor: Cursor,
     pub used: usize,
@@ -28,51 +30,58 @@ pub struct Progress {
 }
 
 // The lines that wait are written.
-pub fn flushed(p: Progress, text: &[u8]) -> Progress
+pub fn flushed(rt: &HostRuntime, p: Progress, text: &[u8]) -> Progress
     ensures { (result.cursor ≡ p.cursor) × (result.used ≡ 0) }
 {
-    let all = answer(front(text, p.used));
-    let c = p.cursor;
+    let all = answer(rt, front(text, p.used));
     Progress {
-        cursor: c,
+        cursor: p.cursor,
         used: 0,
         over: p.over | !all,
     }
 }
 
 // They are written where the next line might not fit behind them.
-fn with_room(p: Progress, text: &[u8]) -> Progress
+fn with_room(rt: &HostRuntime, p: Progress, text: &[u8]) -> Progress
     ensures { result.cursor ≡ p.cursor }
 {
     if has_room(text, p.used) {
         return p;
     }
-    flushed(p, text)
+    flushed(rt, p, text)
 }
 
 // Reads on, behind what the window has from the record at hand on. The lines so far are written before.
-fn read_on(fd: i32, name: &[u8], p: Progress, window: &mut [u8], text: &[u8]) -> Progress
+fn read_on<R: Read>(
+    rt: &HostRuntime,
+    file: &mut R,
+    name: &[u8],
+    p: Progress,
+    window: &mut [u8],
+    text: &[u8],
+) -> Progress
     ensures { result.used ≡ 0 }
 {
-    let q = flushed(p, text);
+    let q = flushed(rt, p, text);
     if q.over {
         return q;
     }
     let c = q.cursor;
     let m = move_up(window, c.at, c.have);
-    let got = read_behind(fd, window, m);
-    if got.failed {
-        complain(name);
-        return Progress {
-            cursor: c,
+    match read_behind(file, window, m) {
+        Ok(n) => Progress {
+            cursor: took(c, m, n),
             used: 0,
-            over: true,
-        };
-    }
-    Progress {
-        cursor: took(c, m, got.n),
-        used: 0,
-        over: false,
+            over: false,
+        },
+        Err(error) => {
+            complain(rt, name, error);
+            Progress {
+                cursor: c,
+                used: 0,
+                over: true,
+            }
+        }
     }
 }
 
@@ -129,8 +138,9 @@ fn is_turn(n: Step) -> bool
 }
 
 // One step on the way to the next record's turn.
-fn one_step(
-    fd: i32,
+fn one_step<R: Read>(
+    rt: &HostRuntime,
+    file: &mut R,
     name: &[u8],
     p: Progress,
     n: Step,
@@ -139,16 +149,18 @@ fn one_step(
 ) -> Progress {
     match n {
         Step::Turn => p,
-        Step::Read => read_on(fd, name, p, window, text),
+        Step::Read => read_on(rt, file, name, p, window, text),
         Step::Begin(payload) => begins_long(p, payload),
         Step::Passed => long(p, text),
         Step::CutOff => cut_off(p, text),
     }
 }
 
-// Goes on until the record at hand has its turn, or the replay is over.
-pub fn ready(
-    fd: i32,
+// Goes on until the record at hand has its turn, or the replay is over. Nothing says that a file ends: the steps are counted, up to a number
+// that no run uses up.
+pub fn ready<R: Read>(
+    rt: &HostRuntime,
+    file: &mut R,
     name: &[u8],
     edition: u8,
     from: Progress,
@@ -158,22 +170,16 @@ pub fn ready(
     ensures { (result.over || is_turn (next_of (edition_of edition) result.cursor window.new)) ≡ true }
 {
     let mut p = from;
-    // nothing says that a file ends: the loop counts down from a number that no run uses up
-    let mut turns: u64 = 18446744073709551615;
-    while 0 < turns {
-        let q = with_room(p, text);
-        let c = q.cursor;
-        let n = next(edition, c, window);
+    for _ in 0..u64::MAX {
+        let q = with_room(rt, p, text);
+        let n = next(edition, q.cursor, window);
         if q.over | is_turn(n) {
             return q;
         }
-        let r = one_step(fd, name, q, n, window, text);
-        p = r;
-        turns -= 1;
+        p = one_step(rt, file, name, q, n, window, text);
     }
-    let c = p.cursor;
     Progress {
-        cursor: c,
+        cursor: p.cursor,
         used: p.used,
         over: true,
     }

@@ -8,16 +8,18 @@ mod turns;
 
 use advance::{Progress, answer, complain, flushed, ready};
 use lab::Lab;
-use libc::{STDERR_FILENO, STDOUT_FILENO};
-use program_files::gather;
+use program_files::{argument, gather, has_argument, open};
 use program_text::front;
+use std::io::{IsTerminal, Print, Read};
 use trace_reader::FileHead;
 use trace_window::WINDOW;
 use turns::turn;
 
-// The records, one after the other, until the replay is over.
-fn records(
-    fd: i32,
+// The records, one after the other, until the replay is over. Nothing says that a file ends: they are counted, up to a number that no run
+// uses up.
+fn records<R: Read>(
+    rt: &HostRuntime,
+    file: &mut R,
     name: &[u8],
     edition: u8,
     from: Lab,
@@ -27,48 +29,45 @@ fn records(
 ) -> Progress {
     let mut lab = from;
     let mut p = start;
-    // nothing says that a file ends: the loop counts down from a number that no run uses up
-    let mut turns: u64 = 18446744073709551615;
-    while 0 < turns {
-        let q = ready(fd, name, edition, p, window, text);
+    for _ in 0..u64::MAX {
+        let q = ready(rt, file, name, edition, p, window, text);
         if q.over {
             return q;
         }
         let t = turn(edition, lab, q, window, text);
-        let after = t.lab;
-        lab = after;
-        let next = t.progress;
-        p = next;
-        turns -= 1;
+        lab = t.lab;
+        p = t.progress;
     }
     p
 }
 
-fn replay(fd: i32, name: &[u8]) {
+fn replay<R: Read>(rt: &HostRuntime, file: &mut R, name: &[u8]) {
     let mut window = [0u8; WINDOW];
-    let mut text = io::buffer();
-    let g = gather(fd, &mut window, 4);
-    if g.failed {
-        complain(name);
-        return;
-    }
-    let have = g.have;
+    let mut text = [0u8; 4096];
+    let g = match gather(file, &mut window, 4) {
+        Ok(g) => g,
+        Err(error) => {
+            complain(rt, name, error);
+            return;
+        }
+    };
     let FileHead::Good {
         edition,
         dialect,
         cipher,
-    } = trace_reader::read_file_head(front(&window, have))
+    } = trace_reader::read_file_head(front(&window, g.have))
     else {
-        answer(b"stop 0\n");
+        answer(rt, b"stop 0\n");
         return;
     };
     let start = Progress {
-        cursor: trace_window::first(have, g.ended),
+        cursor: trace_window::first(g.have, g.ended),
         used: 0,
         over: false,
     };
     let p = records(
-        fd,
+        rt,
+        file,
         name,
         edition,
         lab::fresh(dialect, cipher as u16),
@@ -76,56 +75,54 @@ fn replay(fd: i32, name: &[u8]) {
         &mut window,
         &mut text,
     );
-    flushed(p, &text);
+    flushed(rt, p, &text);
 }
 
-fn usage(fd: i32) {
-    io::write_all(fd, b"usage: smb3seal-replay [FILE]\n");
+fn usage(to: &impl Print) {
+    let _ = to.write_all(b"usage: smb3seal-replay [FILE]\n");
 }
 
-fn replay_file(path: &[u8]) {
-    let fd = os::open_read(path);
-    if fd < 0 {
-        complain(path);
-        return;
+fn replay_file(rt: &HostRuntime, path: &[u8]) {
+    match open(rt, path) {
+        Ok(mut file) => replay(rt, &mut file, path),
+        Err(error) => complain(rt, path, error),
     }
-    replay(fd, path);
-    libc::close(fd);
 }
 
 // The one argument: a file, or a word that is none.
-fn replay_argument() {
-    let mut path = io::buffer();
-    let n = os::arg(1, &mut path);
-    if os::errno() != 0 {
-        complain(b"FILE");
-        return;
-    }
+fn replay_argument(rt: &HostRuntime) {
+    let mut path = [0u8; 4096];
+    let n = match argument(rt, 1, &mut path) {
+        Ok(n) => n,
+        Err(error) => {
+            complain(rt, b"FILE", error);
+            return;
+        }
+    };
     if program_text::asks_help(front(&path, n)) {
-        usage(STDOUT_FILENO);
+        usage(&rt.stdout());
         return;
     }
     if program_text::asks_version(front(&path, n)) {
-        answer(b"smb3seal-replay 0.11.0\n");
+        answer(rt, b"smb3seal-replay 0.11.0\n");
         return;
     }
-    replay_file(front(&path, n));
+    replay_file(rt, front(&path, n));
 }
 
 // No argument at a terminal is a question, and no trace.
-fn main() {
-    let n = os::arg_count();
-    if 2 < n {
-        usage(STDERR_FILENO);
+fn main(rt: HostRuntime) {
+    if has_argument(&rt, 2) {
+        usage(&rt.stderr());
         return;
     }
-    if n == 2 {
-        replay_argument();
+    if has_argument(&rt, 1) {
+        replay_argument(&rt);
         return;
     }
-    if libc::isatty(libc::STDIN_FILENO) == 1 {
-        usage(STDERR_FILENO);
+    if rt.stdin().is_terminal() {
+        usage(&rt.stderr());
         return;
     }
-    replay(libc::STDIN_FILENO, b"standard input");
+    replay(&rt, &mut rt.stdin(), b"standard input");
 }

@@ -7,10 +7,11 @@ mod output;
 
 ghost use Rattle.std.specs.Prelude.{◌≡◌, ltb};
 
-use libc::STDOUT_FILENO;
 use output::{answer, complain, write_new};
-use program_files::gather;
+use program_files::{argument, gather, has_argument};
 use program_text::front;
+use std::io;
+use std::io::Print;
 use trace_rescue::Rescuing;
 
 // One byte more than the program takes.
@@ -23,78 +24,86 @@ fn is_long(n: usize) -> bool
 }
 
 // Of an input of at most 65,536 bytes no more come out, with at most 7,282 gaps (`enough-room`): an unreadable file head alone is refused.
-fn rescue(input: &[u8], to: &[u8]) {
-    let mut room = io::large_buffer();
+fn rescue(rt: &HostRuntime, input: &[u8], to: &[u8]) {
+    let mut room = [0u8; 65536];
     let mut list = [0u64; 14564];
     let Rescuing::Done { written, gaps } = trace_rescue::rescue(input, &mut room, &mut list) else {
-        answer(b"stop 0\n");
+        answer(rt, b"stop 0\n");
         return;
     };
     let mut text = [0u8; 305844];
     let n = program_text::gap_lines(&mut text, &list, gaps);
-    if write_new(to, front(&room, written)) {
-        answer(front(&text, n));
+    if write_new(rt, to, front(&room, written)) {
+        answer(rt, front(&text, n));
     }
+}
+
+// The input's first bytes: how many there are.
+fn read_input(rt: &HostRuntime, from: &[u8], input: &mut [u8]) -> io::Result<usize> {
+    let mut file = program_files::open(rt, from)?;
+    let g = gather(&mut file, input, ROOM)?;
+    Ok(g.have)
 }
 
 // All of the input is read before anything else is done: a read that fails makes no file.
-fn rescue_file(from: &[u8], to: &[u8]) {
-    let fd = os::open_read(from);
-    if fd < 0 {
-        complain(from);
-        return;
-    }
+fn rescue_file(rt: &HostRuntime, from: &[u8], to: &[u8]) {
     let mut input = [0u8; ROOM];
-    let g = gather(fd, &mut input, ROOM);
-    if g.failed {
-        complain(from);
-        libc::close(fd);
-        return;
-    }
-    libc::close(fd);
-    let have = g.have;
+    let have = match read_input(rt, from, &mut input) {
+        Ok(have) => have,
+        Err(error) => {
+            complain(rt, from, error);
+            return;
+        }
+    };
     if is_long(have) {
-        answer(b"long\n");
+        answer(rt, b"long\n");
         return;
     }
-    rescue(front(&input, have), to);
+    rescue(rt, front(&input, have), to);
 }
 
-fn usage(fd: i32) {
-    io::write_all(fd, b"usage: smb3seal-rescue INPUT OUTPUT\n");
+fn usage(to: &impl Print) {
+    let _ = to.write_all(b"usage: smb3seal-rescue INPUT OUTPUT\n");
 }
 
 // One argument that is no file, or too few of them.
-fn rescue_nothing() {
-    let mut word = io::buffer();
-    let n = os::arg(1, &mut word);
+fn rescue_nothing(rt: &HostRuntime) {
+    let mut word = [0u8; 4096];
+    let n = argument(rt, 1, &mut word).unwrap_or(0);
     if program_text::asks_help(front(&word, n)) {
-        usage(STDOUT_FILENO);
+        usage(&rt.stdout());
         return;
     }
     if program_text::asks_version(front(&word, n)) {
-        answer(b"smb3seal-rescue 0.11.0\n");
+        answer(rt, b"smb3seal-rescue 0.11.0\n");
         return;
     }
-    usage(libc::STDERR_FILENO);
+    usage(&rt.stderr());
 }
 
-fn main() {
-    if os::arg_count() != 3 {
-        rescue_nothing();
+// An argument that names a file: how many bytes its name has. One that cannot be taken is said, under the name that the usage gives it.
+fn name(rt: &HostRuntime, i: usize, room: &mut [u8], called: &[u8]) -> Option<usize> {
+    match argument(rt, i, room) {
+        Ok(n) => Some(n),
+        Err(error) => {
+            complain(rt, called, error);
+            None
+        }
+    }
+}
+
+fn main(rt: HostRuntime) {
+    if !has_argument(&rt, 2) || has_argument(&rt, 3) {
+        rescue_nothing(&rt);
         return;
     }
-    let mut from = io::buffer();
-    let n = os::arg(1, &mut from);
-    if os::errno() != 0 {
-        complain(b"INPUT");
+    let mut from = [0u8; 4096];
+    let Some(n) = name(&rt, 1, &mut from, b"INPUT") else {
         return;
-    }
-    let mut to = io::buffer();
-    let m = os::arg(2, &mut to);
-    if os::errno() != 0 {
-        complain(b"OUTPUT");
+    };
+    let mut to = [0u8; 4096];
+    let Some(m) = name(&rt, 2, &mut to, b"OUTPUT") else {
         return;
-    }
-    rescue_file(front(&from, n), front(&to, m));
+    };
+    rescue_file(&rt, front(&from, n), front(&to, m));
 }

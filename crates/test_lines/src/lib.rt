@@ -7,8 +7,8 @@ ghost use Rattle.octets.specs.Numbers.{big_endian};
 ghost use Rattle.octets.specs.Same.{same_bytes};
 ghost use Rattle.test_lines.specs.Lines as lines;
 
-use libc::STDOUT_FILENO;
-use std::num::wrapping_add_u64;
+// Standard output, by its number.
+pub const STDOUT: i32 = 1;
 
 // The value of a hexadecimal digit in lower case; 16 for any other byte.
 fn digit(b: u8) -> u8
@@ -106,7 +106,7 @@ pub struct Number {
 fn shifted(n: u64, b: u8) -> u64
     ensures { result ≡ (n * 256 + b) % 2 ^ 64 }
 {
-    wrapping_add_u64(n << 8, b as u64)
+    (n << 8).wrapping_add(b as u64)
 }
 
 pub fn read_number(line: &[u8], at: usize) -> Number
@@ -178,11 +178,11 @@ pub fn prefix(b: &[u8], n: usize) -> &[u8]
 // Writes a byte string in hexadecimal, and `-` for the empty one.
 pub fn show(b: &[u8]) {
     if b.len() == 0 {
-        io::write_all(STDOUT_FILENO, b"-");
+        io::write_all(STDOUT, b"-");
     }
     let mut i: usize = 0;
     while i < b.len() {
-        io::print_hex(STDOUT_FILENO, wide(b[i]) as u64, 2);
+        io::print_hex(STDOUT, wide(b[i]) as u64, 2);
         i += 1;
     }
 }
@@ -192,18 +192,18 @@ pub fn show_16(b: [u8; 16]) {
 }
 
 pub fn space() {
-    io::write_all(STDOUT_FILENO, b" ");
+    io::write_all(STDOUT, b" ");
 }
 
 pub fn show_decimal(n: u64) {
-    io::print_decimal(STDOUT_FILENO, n);
+    io::print_decimal(STDOUT, n);
 }
 
 // All 16 digits of a number.
 pub fn show_64(n: u64) {
-    io::print_hex(STDOUT_FILENO, n, 16);
+    io::print_hex(STDOUT, n, 16);
 }
 
 pub fn end_line() {
-    io::write_all(STDOUT_FILENO, b"\n");
+    io::write_all(STDOUT, b"\n");
 }

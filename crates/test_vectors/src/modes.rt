@@ -23,9 +23,9 @@ fn show_sealed(message: &[u8], tag: [u8; 16]) {
 // Whether a message was opened, and what its buffer holds.
 fn show_opened(opened: bool, message: &[u8]) {
     if opened {
-        io::write_all(libc::STDOUT_FILENO, b" 1 ");
+        io::write_all(test_lines::STDOUT, b" 1 ");
     } else {
-        io::write_all(libc::STDOUT_FILENO, b" 0 ");
+        io::write_all(test_lines::STDOUT, b" 0 ");
     }
     test_lines::show(message);
 }

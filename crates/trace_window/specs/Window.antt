@@ -1,6 +1,6 @@
 -- What a replay decides about the window through which it reads its file: RULES 16.9 and 16.10. The structs and the enum are the code's.
 -- Assumes nothing.
-use Rattle.std.specs.Prelude.{◌≡◌, ℕ, ◌+◌, ◌-◌, ◌%◌, ◌^◌, min, Bool, cond, ◌||◌, List, length, take, drop, ◌==◌, nat_le, nat_lt}
+use Rattle.std.specs.Prelude.{◌≡◌, ℕ, ◌+◌, ◌-◌, ◌%◌, ◌^◌, min, Bool, cond, ◌||◌, length, take, drop, ◌==◌, nat_le, nat_lt}
 use Rattle.std.proofs.Math.Seq.{paste}
 use Rattle.trace_format.specs.Format.{Bytes, Edition, HeadReading, head, bad_head, read_head}
 use Rattle.trace_window.specs.declared.Cursor.{Cursor}

@@ -7,7 +7,6 @@ ghost use Rattle.trace_format.specs.Format.{edition_of, read_head};
 ghost use Rattle.trace_window.specs.Window as window;
 
 use program_text::{behind, front};
-use std::num::{wrapping_add_u64, wrapping_add_usize};
 use trace_reader::{Head, read_head};
 
 // The longest payload that is held.
@@ -18,7 +17,7 @@ pub const WINDOW: usize = 65540;
 
 // The window's first `have` bytes are the file's, and the record at hand begins at `at`. Of one that is not held, of `size` bytes, `left` are
 // still to be passed over; else both are 0. Its place in the file and its index are those of its line.
-#[derive(Drop)]
+#[derive(Clone, Copy)]
 pub struct Cursor {
     pub at: usize,
     pub have: usize,
@@ -29,7 +28,7 @@ pub struct Cursor {
     pub index: u64,
 }
 
-#[derive(Drop)]
+#[derive(Clone, Copy)]
 pub enum Step {
     // The record at hand is in the window, or all that is left of the file.
     Turn,
@@ -87,6 +86,7 @@ fn judged(edition: u8, bytes: &[u8], ended: bool) -> Step
     Step::Read
 }
 
+#[tactic(auto, unfolding(crate::specs::Window::next_of))]
 pub fn next(edition: u8, c: Cursor, bytes: &[u8]) -> Step
     ensures { result ≡ window.next_of (edition_of edition) c bytes.now }
 {
@@ -103,6 +103,7 @@ pub fn next(edition: u8, c: Cursor, bytes: &[u8]) -> Step
 }
 
 // Of a record that is not held, as many bytes are passed over as there are.
+#[tactic(auto, unfolding(crate::specs::Window::passed))]
 fn passed(c: Cursor) -> Cursor
     ensures { result ≡ window.passed c }
 {
@@ -119,10 +120,11 @@ fn passed(c: Cursor) -> Cursor
 }
 
 // A record begins that is not held, with a payload of n bytes.
+#[tactic(auto, unfolding(crate::specs::Window::begun))]
 pub fn begun(c: Cursor, n: usize) -> Cursor
     ensures { result ≡ window.begun n c }
 {
-    let size = wrapping_add_usize(4, n);
+    let size = 4usize.wrapping_add(n);
     passed(Cursor {
         at: c.at,
         have: c.have,
@@ -148,12 +150,13 @@ pub fn move_up(bytes: &mut [u8], at: usize, have: usize) -> usize
 }
 
 // n bytes were read behind the first m; none at the end of the file.
+#[tactic(auto, unfolding(crate::specs::Window::took))]
 pub fn took(c: Cursor, m: usize, n: usize) -> Cursor
     ensures { result ≡ window.took m n c }
 {
     passed(Cursor {
         at: 0,
-        have: wrapping_add_usize(m, n),
+        have: m.wrapping_add(n),
         left: c.left,
         size: c.size,
         ended: n == 0,
@@ -172,8 +175,8 @@ fn behind_record(c: Cursor, n: usize, q: usize) -> Cursor
         left: 0,
         size: 0,
         ended: c.ended,
-        place: wrapping_add_u64(c.place, n as u64),
-        index: wrapping_add_u64(c.index, 1),
+        place: c.place.wrapping_add(n as u64),
+        index: c.index.wrapping_add(1),
     }
 }
 

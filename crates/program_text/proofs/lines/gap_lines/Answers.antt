@@ -1,0 +1,11 @@
+use Rattle.std.proofs.Common.{◌∙◌, sym}
+use Rattle.program_text.proofs.PutLaws.{gaps-room, listing_start, listing_turn}
+use Rattle.program_text.proofs.lines.gap_lines.Goals as goal
+
+pub loop-i-init : goal.loop-i-init
+loop-i-init c = listing_start _ _ _
+
+pub loop-i-preserved : goal.loop-i-preserved
+loop-i-preserved c =
+    let room = gaps-room _ _ c.args.gaps (sym c.gaps_fit.ensures ∙ c.if-not-gaps_fit.false) in
+    listing_turn c.loop-i.invariant c.loop-i-test.true room.0 c.two_numbers-at.ensures
