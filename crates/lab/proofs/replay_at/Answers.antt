@@ -21,7 +21,7 @@ returns-in_default c =
     let e = edition_of a.edition in
     let f = a.file.now in
     stops (read_at e f a.at) a.lab f a.at
-    (no_record e f a.at c.read_record.result c.if-file-at.false c.read_record.ensures c.in-Record.keys2)
+    (no_record e f a.at c.read_record.result c.if-file-at.false c.read_record.ensures c.in_default.not-Record)
 
 pub returns-then-len-gt-HELD : goal.returns-then-len-gt-HELD
 returns-then-len-gt-HELD c =
