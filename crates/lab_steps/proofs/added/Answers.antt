@@ -10,37 +10,21 @@ use Rattle.protocol.specs.Calls.{Call, Lent, adding, only_table, answer, left}
 use Rattle.protocol.specs.Suite.{suite}
 use Rattle.lab_rules.specs.Steps.{State, joined}
 use Rattle.lab_state.specs.Reading.{state_of}
-use borrow.Author.Rules.{rules}
-use Rattle.lab_steps.proofs.added.Statement.{statement}
-use Rattle.lab_steps.proofs.added.Tie as tie
+use Rattle.lab_steps.proofs.added.Goals as goal
 
-returns : tie.Need-returns
-returns c = λ h. absurd (omega arith)
+pub returns-then-payload-lt24 : goal.returns-then-payload-lt24
+returns-then-payload-lt24 c = λ h. absurd (omega arith)
 
-returns-2 : tie.Need-returns-2
-returns-2 c = λ h.
-    let past = c.before.before in
-    let a = past.before.before.before.before.before.before.before.before.args in
+pub returns : goal.returns
+returns c = λ h.
+    let a = c.args in
     let s = state_of a.from in
     let m = a.payload.now in
     let call : ℕ → Call = λ (x : ℕ).
     adding (record { dialect = s.dialect; cipher = s.cipher; chain = s.session; id = x; material = bytes_at 8 16 m; guest = false; anonymous = false }) in
     let w = only_table s.table in
-    let r = past.add-in.ensures.0 in
-    let id = past.before.before.before.before.before.u64-at.ensures in (
+    let r = c.add_in-r.ensures.0 in
+    let id = c.u64_at.ensures in (
       r.number ∙ ap (λ (x : ℕ). answer_number (answer suite (call x) w)) id,
       ap {B = State} (λ (x : Lent). joined x.table s) r.leaves ∙ ap {B = State} (λ (x : ℕ). joined (left suite (call x) w).table s) id,
     )
-
-pub added-spec : {M : Type 1} → statement M
-added-spec =
-    tie.close
-    (tie.spec
-    returns
-    (λ c κs. search rules)
-    (λ c. search rules)
-    (λ c. search rules)
-    (λ c. search rules)
-    (λ c. search rules)
-    (λ c κs. search rules)
-    returns-2)
