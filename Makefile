@@ -5,7 +5,7 @@
 # make package     a tarball and a Debian package, with their checksums, into dist/
 # make rust        the tests of the Rust wrapper
 # make test        the whole gate: rt ci, then the outside tests
-# make consistency pages, lists and vectors agree with each other and with the tree: seconds
+# make consistency pages, lists, edits and vectors agree with each other and with the tree: seconds
 # make bench       sealing, opening, derivation and folding beside other libraries; bench-docs: and the figures into docs/
 # make fuzz, samba, coverage   on demand: the fuzzers, a minute each; Samba through the library; what the tests execute
 # make install, uninstall (PREFIX, DESTDIR), clean
@@ -22,21 +22,20 @@ TOOLS = $(PROVED_TOOLS) smb3seal-status smb3seal-explain
 all: dist/libsmb3seal.a dist/smb3seal.h dist/smb3seal_text.h dist/smb3seal.3 $(TOOLS:%=dist/%) $(TOOLS:%=dist/%.1)
 
 # rt decides by itself what has to be proved again, and runs its own jobs beside each other.
-RATTLE := crates.txt $(shell find crates -name '*.rt' -o -name '*.antt')
+RATTLE := crates.txt $(shell find crates -name out -prune -o \( -name '*.rt' -o -name '*.antt' \) -print)
 .NOTPARALLEL:
 
-target/staticlib/lib%.a: $(RATTLE)
-	@mkdir -p target
-	@echo "proving and building $@ (from nothing some minutes, after rt ci seconds)"
-	@rt staticlib $* > target/$*.log 2>&1 || { cat target/$*.log; exit 1; }
-	@touch $@
+# A crate is a library or an archive: that of smb3seal is made of a crate that has its exports.
+$(ARCHIVE): CRATE = smb3seal_c
+$(PRIMITIVES): CRATE = test_primitives
+$(ARCHIVE) $(PRIMITIVES): $(RATTLE)
+	@echo "proving and building $@ (from nothing many minutes, after the gate's rt ci seconds)"
+	@scripts/proved $(CRATE) $@
 
 # The programs that replay and rescue lab traces: rt proves, links and tries them.
 target/bin/%: $(RATTLE)
-	@mkdir -p target
 	@echo "proving and building $@"
-	@rt check $* > target/$*.log 2>&1 || { cat target/$*.log; exit 1; }
-	@touch $@
+	@scripts/proved $* $@
 
 $(PROVED_TOOLS:%=dist/%): dist/smb3seal-%: target/bin/%
 	@mkdir -p dist

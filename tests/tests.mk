@@ -58,14 +58,14 @@ program-lane: valgrind examples packaging rust unix faults
 built-programs:
 	@scripts/test-with "the programs of the C tests" libssl-dev -- $(AGAIN) $(PROGRAMS) $(MUTANTS)
 
-# Pages, lists and vectors agree with each other and with the tree.
+# Pages, lists, edits and vectors agree with each other and with the tree. The layout of the Rattle files is rt ci's own check.
 consistency:
-	@rt fmt --check
 	@scripts/vectors --check
 	@scripts/test-with "the trace of the gate, and its lines" python3-cryptography -- scripts/lab-trace --check
 	@scripts/numbers --check
 	@scripts/docs-check
 	@scripts/edits-check
+	@scripts/exports-check
 	@scripts/crates-picture --check
 
 symbols: $(PRIMITIVES)

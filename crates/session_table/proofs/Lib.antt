@@ -1,12 +1,4 @@
-pub mod Lending
-pub mod Kit
-pub mod Leaving
-pub mod Said
-pub mod Shared
-pub mod Operands
 pub mod PlaceLaws
 pub mod StepLaws
 pub mod TableLink
-pub mod Values
-pub mod Walk
 pub mod TableCalls

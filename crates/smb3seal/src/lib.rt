@@ -1,4 +1,5 @@
-// The calls from C: numbers and byte buffers. What each answers and leaves behind is said by include/smb3seal.h in words.
+// The calls of the interface: numbers and byte buffers. What each answers and leaves behind is said by include/smb3seal.h in words; smb3seal_c
+// hands them to C.
 #![tactic(auto)]
 
 mod pieces;
@@ -13,9 +14,23 @@ ghost use Rattle.protocol.specs.Contract.{Returns};
 ghost use Rattle.connection.specs.Reading.{under_key};
 ghost use Rattle.smb3seal.specs.Exports.{Reports};
 
+pub use pieces::{
+    smb3seal_fold_begin, smb3seal_fold_finish, smb3seal_fold_piece, smb3seal_fold_response_finish,
+};
+pub use sign_pieces::{
+    smb3seal_sign_begin, smb3seal_sign_finish, smb3seal_sign_piece, smb3seal_verify_finish,
+};
+pub use table::{
+    smb3seal_table_add, smb3seal_table_find, smb3seal_table_open, smb3seal_table_remove,
+    smb3seal_table_seal,
+};
+pub use traces::{
+    smb3seal_trace_head, smb3seal_trace_read, smb3seal_trace_read_head, smb3seal_trace_record,
+    smb3seal_trace_rescue,
+};
+
 // Writes the four keys of a session.
-#[unsafe(no_mangle)]
-pub extern "C" fn smb3seal_derive(
+pub fn smb3seal_derive(
     dialect: u16,
     cipher: u16,
     material: &[u8],
@@ -28,8 +43,7 @@ pub extern "C" fn smb3seal_derive(
 }
 
 // Folds a negotiate message or a session setup request.
-#[unsafe(no_mangle)]
-pub extern "C" fn smb3seal_fold(chain: &mut [u8], message: &[u8]) -> u32
+pub fn smb3seal_fold(chain: &mut [u8], message: &[u8]) -> u32
     ensures { Returns (folding negotiate_message message.now) (only_chain chain.old) result (only_chain chain.new)
         × Returns (folding setup_request message.now) (only_chain chain.old) result (only_chain chain.new) }
 {
@@ -37,8 +51,7 @@ pub extern "C" fn smb3seal_fold(chain: &mut [u8], message: &[u8]) -> u32
 }
 
 // Folds a session setup response, if its status asks for that.
-#[unsafe(no_mangle)]
-pub extern "C" fn smb3seal_fold_response(chain: &mut [u8], message: &[u8], folded: &mut u32) -> u32
+pub fn smb3seal_fold_response(chain: &mut [u8], message: &[u8], folded: &mut u32) -> u32
     ensures { Reports (folding setup_response message.now) (only_chain chain.old) result (only_chain chain.new) folded.old folded.new }
 {
     let answer = preauth::fold_response(chain, message);
@@ -47,8 +60,7 @@ pub extern "C" fn smb3seal_fold_response(chain: &mut [u8], message: &[u8], folde
 }
 
 // Seals the message in place.
-#[unsafe(no_mangle)]
-pub extern "C" fn smb3seal_seal(
+pub fn smb3seal_seal(
     role: u32,
     dialect: u16,
     encryption: u32,
@@ -69,8 +81,7 @@ pub extern "C" fn smb3seal_seal(
 }
 
 // Opens the message in place.
-#[unsafe(no_mangle)]
-pub extern "C" fn smb3seal_open(
+pub fn smb3seal_open(
     role: u32,
     dialect: u16,
     encryption: u32,
@@ -88,16 +99,14 @@ pub extern "C" fn smb3seal_open(
 }
 
 // Signs the message in place.
-#[unsafe(no_mangle)]
-pub extern "C" fn smb3seal_sign(key: &[u8], message: &mut [u8]) -> u32
+pub fn smb3seal_sign(key: &[u8], message: &mut [u8]) -> u32
     ensures { Returns (signing_under key.now) (only_message message.old) result (only_message message.new) }
 {
     signing::sign(key, message)
 }
 
 // Verifies the message, which stays as it is.
-#[unsafe(no_mangle)]
-pub extern "C" fn smb3seal_verify(key: &[u8], message: &[u8]) -> u32
+pub fn smb3seal_verify(key: &[u8], message: &[u8]) -> u32
     ensures { Returns (verifying_under key.now) (only_message message.now) result (only_message message.now) }
 {
     signing::verify(key, message)

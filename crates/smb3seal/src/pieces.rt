@@ -6,32 +6,28 @@ ghost use Rattle.fold_pieces.specs.Clauses.{begin_step, piece_step, Ends};
 use fold_pieces::{FoldState, FoldStep};
 
 // Begins a message on a chain value.
-#[unsafe(no_mangle)]
-pub extern "C" fn smb3seal_fold_begin(chain: &[u8]) -> FoldStep
+pub fn smb3seal_fold_begin(chain: &[u8]) -> FoldStep
     ensures { result ≡ begin_step chain.now }
 {
     fold_pieces::begin(chain)
 }
 
 // Takes a piece of it.
-#[unsafe(no_mangle)]
-pub extern "C" fn smb3seal_fold_piece(state: FoldState, piece: &[u8]) -> FoldStep
+pub fn smb3seal_fold_piece(state: FoldState, piece: &[u8]) -> FoldStep
     ensures { result ≡ piece_step state piece.now }
 {
     state.piece(piece)
 }
 
 // Folds a negotiate message or a session setup request.
-#[unsafe(no_mangle)]
-pub extern "C" fn smb3seal_fold_finish(state: FoldState, chain: &mut [u8]) -> FoldStep
+pub fn smb3seal_fold_finish(state: FoldState, chain: &mut [u8]) -> FoldStep
     ensures { Ends state true chain.old result chain.new }
 {
     state.finish(chain)
 }
 
 // Folds a session setup response, if its status asks for that.
-#[unsafe(no_mangle)]
-pub extern "C" fn smb3seal_fold_response_finish(state: FoldState, chain: &mut [u8]) -> FoldStep
+pub fn smb3seal_fold_response_finish(state: FoldState, chain: &mut [u8]) -> FoldStep
     ensures { Ends state (more_processing state.head) chain.old result chain.new }
 {
     state.finish_response(chain)

@@ -6,32 +6,28 @@ ghost use Rattle.signing_pieces.specs.Clauses.{begin_step, piece_step, Signs, ve
 use signing_pieces::{SignState, SignStep};
 
 // Begins a message.
-#[unsafe(no_mangle)]
-pub extern "C" fn smb3seal_sign_begin(key: &[u8]) -> SignStep
+pub fn smb3seal_sign_begin(key: &[u8]) -> SignStep
     ensures { result ≡ begin_step key.now }
 {
     signing_pieces::begin(key)
 }
 
 // Takes a piece in, which stays as it is.
-#[unsafe(no_mangle)]
-pub extern "C" fn smb3seal_sign_piece(state: SignState, piece: &[u8]) -> SignStep
+pub fn smb3seal_sign_piece(state: SignState, piece: &[u8]) -> SignStep
     ensures { result ≡ piece_step state piece.now }
 {
     state.piece(piece)
 }
 
 // Ends a message to sign, and writes its signature.
-#[unsafe(no_mangle)]
-pub extern "C" fn smb3seal_sign_finish(state: SignState, signature: &mut [u8]) -> SignStep
+pub fn smb3seal_sign_finish(state: SignState, signature: &mut [u8]) -> SignStep
     ensures { Signs state signature.old result signature.new }
 {
     state.sign(signature)
 }
 
 // Ends a message to verify.
-#[unsafe(no_mangle)]
-pub extern "C" fn smb3seal_verify_finish(state: SignState) -> SignStep
+pub fn smb3seal_verify_finish(state: SignState) -> SignStep
     ensures { result ≡ step_with no_message (verify_number state) }
 {
     state.verify()

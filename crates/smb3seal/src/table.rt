@@ -13,16 +13,14 @@ use connection::Connection;
 use session_record::Session;
 
 // The place of the session of the id, or the table's length where there is none.
-#[unsafe(no_mangle)]
-pub extern "C" fn smb3seal_table_find(table: &[Session], id: u64) -> usize
+pub fn smb3seal_table_find(table: &[Session], id: u64) -> usize
     ensures { result ≡ place_of id table.now }
 {
     session_table::find(table, true, id)
 }
 
 // Adds a session of a new id in the first free record.
-#[unsafe(no_mangle)]
-pub extern "C" fn smb3seal_table_add(
+pub fn smb3seal_table_add(
     table: &mut [Session],
     connection: Connection,
     id: u64,
@@ -46,8 +44,7 @@ pub extern "C" fn smb3seal_table_add(
 }
 
 // Takes the session of the id out, its keys with it.
-#[unsafe(no_mangle)]
-pub extern "C" fn smb3seal_table_remove(table: &mut [Session], id: u64) -> u32
+pub fn smb3seal_table_remove(table: &mut [Session], id: u64) -> u32
     ensures { Returns (removing id) (only_table (table_of table.old)) result (only_table (table_of table.new))
         × Exactly (removing id) (only_table (table_of table.old)) table.old table.new }
 {
@@ -59,8 +56,7 @@ pub extern "C" fn smb3seal_table_remove(table: &mut [Session], id: u64) -> u32
 }
 
 // Seals the message in place for the session of the id.
-#[unsafe(no_mangle)]
-pub extern "C" fn smb3seal_table_seal(
+pub fn smb3seal_table_seal(
     table: &mut [Session],
     connection: Connection,
     id: u64,
@@ -79,8 +75,7 @@ pub extern "C" fn smb3seal_table_seal(
 }
 
 // Opens the message in place with the session that its header names.
-#[unsafe(no_mangle)]
-pub extern "C" fn smb3seal_table_open(
+pub fn smb3seal_table_open(
     table: &[Session],
     connection: Connection,
     message: &mut [u8],

@@ -6,8 +6,7 @@ ghost use Rattle.connection.specs.Reading.{flag};
 ghost use Rattle.smb3seal.specs.Traces.{WritesTrace, ReadsHead, ReadsRecord, RescuesTrace};
 
 // Writes the head of a trace at the start of the room.
-#[unsafe(no_mangle)]
-pub extern "C" fn smb3seal_trace_head(
+pub fn smb3seal_trace_head(
     edition: u8,
     dialect: u16,
     cipher: u16,
@@ -22,8 +21,7 @@ pub extern "C" fn smb3seal_trace_head(
 }
 
 // Writes a record at a place of the room.
-#[unsafe(no_mangle)]
-pub extern "C" fn smb3seal_trace_record(
+pub fn smb3seal_trace_record(
     kind: u32,
     from_server: u32,
     payload: &[u8],
@@ -38,8 +36,7 @@ pub extern "C" fn smb3seal_trace_record(
 }
 
 // Reads the head of a trace.
-#[unsafe(no_mangle)]
-pub extern "C" fn smb3seal_trace_read_head(
+pub fn smb3seal_trace_read_head(
     trace: &[u8],
     edition: &mut u8,
     dialect: &mut u16,
@@ -55,8 +52,7 @@ pub extern "C" fn smb3seal_trace_read_head(
 }
 
 // Reads the record at a place of a trace.
-#[unsafe(no_mangle)]
-pub extern "C" fn smb3seal_trace_read(
+pub fn smb3seal_trace_read(
     trace: &[u8],
     at: &mut usize,
     kind: &mut u32,
@@ -76,8 +72,7 @@ pub extern "C" fn smb3seal_trace_read(
 }
 
 // Copies what is good of a damaged trace, and lists its gaps.
-#[unsafe(no_mangle)]
-pub extern "C" fn smb3seal_trace_rescue(
+pub fn smb3seal_trace_rescue(
     trace: &[u8],
     rescued: &mut [u8],
     gaps: &mut [u64],
