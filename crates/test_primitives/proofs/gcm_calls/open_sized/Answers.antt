@@ -1,0 +1,11 @@
+-- Right because arrays read off slices of their length are the slices, and `gcm::open` does the rest.
+-- Assumes nothing.
+use Rattle.test_primitives.proofs.Laws.{whole}
+use Rattle.test_primitives.proofs.gcm_calls.open_sized.Goals as goal
+
+pub returns : goal.returns
+returns c =
+    let n = whole 12 c.args.nonce.now _ c.requires.1 c.bytes_12-n.ensures in
+    let t = whole 16 c.args.tag.now _ c.requires.3 c.bytes_16-t.ensures in
+    let e = rw (n, t) at c.«open».ensures in
+    (e.right, e.bytes)
