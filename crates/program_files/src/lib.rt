@@ -2,7 +2,7 @@
 // where they go no contract can say; what becomes of what is lent, these do.
 #![tactic(auto)]
 
-ghost use Rattle.std.specs.Prelude.{◌≤◌, length, IfOk};
+ghost use Rattle.std.specs.Prelude.{◌≡◌, ◌≤◌, length, IfOk, OnErr};
 ghost use Rattle.program_files.specs.Reads.{ReadsBehind, Gathers};
 
 use std::env::{Env, FillError};
@@ -37,7 +37,8 @@ pub struct Gathered {
 
 // Reads from the window's start on until n bytes are there. Where a read fails, the window holds what came before it.
 pub fn gather<R: Read>(file: &mut R, window: &mut [u8], n: usize) -> io::Result<Gathered>
-    ensures { IfOk result (λ r. Gathers n r window.new) }
+    ensures ok { IfOk result (λ r. Gathers n r window.new) }
+    ensures err { OnErr result (length window.new ≡ length window.old) }
 {
     let mut have: usize = 0;
     while have < n {
