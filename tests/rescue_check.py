@@ -14,6 +14,7 @@ import tempfile
 import trace_model as model
 
 MARKS = (b"\xfeSMB", b"\xfdSMB")
+MEMORY = "/dev/shm"
 
 
 def payload(rng):
@@ -160,7 +161,9 @@ def taken_name(program):
 def main():
     count, seed = (list(map(int, sys.argv[2:])) + [20000, 1][len(sys.argv) - 2 :])[:2]
     rng, clean, refused, gaps = random.Random(seed), 0, 0, 0
-    with tempfile.TemporaryDirectory() as folder:
+    # each rescue waits until the disk has its file: in memory that takes no time
+    memory = MEMORY if "TMPDIR" not in os.environ and os.access(MEMORY, os.W_OK) else None
+    with tempfile.TemporaryDirectory(dir=memory) as folder:
         program, named = Program(os.path.abspath(sys.argv[1]), folder), list(named_traces())
         for number in range(count):
             trace = named[number] if number < len(named) else random_trace(rng)

@@ -13,7 +13,7 @@ use Rattle.octets.specs.Numbers.{bytes_at}
 use Rattle.rijndael.specs.Cipher.{cipher}
 use Rattle.rijndael.specs.BlockCipher.{block_cipher, expanded_key, round_count}
 use Rattle.rijndael.proofs.Lengths.{length-expanded_key}
-use Rattle.rijndael.proofs.LongerKeys.{cipher-longer}
+use Rattle.rijndael.proofs.LongerKeys.{cipher_longer}
 use Rattle.aes.specs.KeySizes.{is_key_length, fifteen}
 
 pub is_16 : is_key_length 16 ≡ true
@@ -48,11 +48,11 @@ below_fifteen : (n : ℕ) → is_key_length n ≡ true → round_count n < 15
 unfolding round_count
 below_fifteen n h = of_sizes n h (λ e. omega arith) (λ e. omega arith)
 
--- ____ the array
+-- ---- the array
 
 pub cipher-fifteen : (keys : List (List ℕ)) → 0 < length keys → cipher (length keys - 1) (fifteen keys) ≡ block_cipher keys
 unfolding fifteen
-cipher-fifteen keys h = cipher-longer keys _ (length keys - 1) (omega arith)
+cipher-fifteen keys h = cipher_longer keys _ (length keys - 1) (omega arith)
 
 -- with a key's own number of rounds
 cipher_under : (key : List ℕ) → cipher (round_count (length key)) (fifteen (expanded_key key)) ≡ block_cipher (expanded_key key)
@@ -72,11 +72,11 @@ rows_drop (suc n) i l rest h =
     ap (λ (r : List (List ℕ)). get_or l i [] ∷ r) (rows_drop n (suc i) l rest (omega arith))
     ∙ ap (λ (r : List (List ℕ)). r ++ rest) (sym (drop-cons l i [] (omega arith)))
 
-pub eleven_in-fifteen : (k : List (List ℕ)) → length k ≡ 11 → rows 11 0 k (replicate 4 (replicate 16 0)) ≡ fifteen k
+pub eleven_in_fifteen : (k : List (List ℕ)) → length k ≡ 11 → rows 11 0 k (replicate 4 (replicate 16 0)) ≡ fifteen k
 unfolding fifteen
-eleven_in-fifteen k h = rows_drop 11 0 k _ (sym h) ∙ ap (λ (n : ℕ). k ++ replicate (15 - n) (replicate 16 0)) (sym h)
+eleven_in_fifteen k h = rows_drop 11 0 k _ (sym h) ∙ ap (λ (n : ℕ). k ++ replicate (15 - n) (replicate 16 0)) (sym h)
 
--- ____ a key of each size
+-- ---- a key of each size
 
 pub short-keys : (key k : List ℕ) (ks r : List (List ℕ)) → length key ≡ 16 → k ≡ bytes_at 0 16 key → ks ≡ expanded_key k → r ≡ fifteen ks
     → r ≡ fifteen (expanded_key key)
@@ -98,7 +98,7 @@ long-keys key k0 k1 r h e0 e1 er =
     let n = length-expanded_key key in
     er ∙ ap expanded_key (ap₂ ◌++◌ e0 e1 ∙ halves key h) ∙ full (expanded_key key) (omega arith)
 
--- ____ what the modes take of the code's results
+-- ---- what the modes take of the code's results
 
 module _ (key : List ℕ) {n : ℕ} (en : n ≡ round_count (length key)) where
   pub keyed : {keys : List (List ℕ)} → keys ≡ fifteen (expanded_key key) → cipher n keys ≡ block_cipher (expanded_key key)

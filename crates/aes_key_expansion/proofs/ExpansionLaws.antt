@@ -12,7 +12,7 @@ use Rattle.octets.proofs.Elements.{whole}
 use Rattle.rijndael.specs.KeyExpansion.{key_expansion, round_keys, words, key_words, temp, rcon, xpower, word_of, xor_word, sub_word, rot_word}
 use Rattle.aes_key_expansion.specs.NextKey.{next_word, next_key, at_multiple, at_middle}
 
--- ____ what a word takes in of the word before it, by its place
+-- ---- what a word takes in of the word before it, by its place
 
 -- at a multiple of nk
 temp_multiple : (nk i c : ℕ) (w : List ℕ) → i % nk ≡ 0 → xpower (i / nk - 1) ≡ c → temp nk i w ≡ xor_word (sub_word (rot_word w)) (c ∷ 0 ∷ 0 ∷ 0 ∷ [])
@@ -38,7 +38,7 @@ plain_4 i w h = temp_plain 4 i w (ne_eqb (i % 4) 0 (λ e. omega arith)) (ne_eqb 
 plain_8 : (i : ℕ) (w : List ℕ) → 0 < i % 4 → temp 8 i w ≡ w
 plain_8 i w h = temp_plain 8 i w (ne_eqb (i % 8) 0 (λ e. omega arith)) (ne_eqb (i % 8) 4 (λ e. omega arith))
 
--- ____ four words more
+-- ---- four words more
 
 -- the words of a round key, the last first, before ws
 abbrev words_of : List ℕ → List (List ℕ) → List (List ℕ)
@@ -66,7 +66,7 @@ module _ (nk : ℕ) (plain : (i : ℕ) (w : List ℕ) → 0 < i % 4 → temp nk 
       (plain (nk + suc (suc n)) _ (omega arith)) (g2 _ _))
       (plain (nk + suc (suc (suc n))) _ (omega arith)) (g3 _ _ _)
 
--- ____ the round keys so far, the last first
+-- ---- the round keys so far, the last first
 
 abbrev all_words : List (List ℕ) → List (List ℕ)
 all_words [] = []
@@ -107,22 +107,22 @@ unfolding key_expansion
 expanded nk nr key ks rows m =
     sym (ap (λ (w : List (List ℕ)). round_keys (nr + 1) 0 (reverse w)) m.are ∙ rows ∙ ap reverse m.each)
 
--- ____ a key of four words
+-- ---- a key of four words
 
-pub first-4 : (key : List ℕ) → length key ≡ 16 → Made 4 0 key (key ∷ [])
+pub first_4 : (key : List ℕ) → length key ≡ 16 → Made 4 0 key (key ∷ [])
 unfolding words key_words
-first-4 key h = record { are = refl; each = cons (joined-whole key h) refl }
+first_4 key h = record { are = refl; each = cons (joined-whole key h) refl }
 
-pub next-4 : (n c : ℕ) {key k r : List ℕ} {ks : List (List ℕ)} → n % 4 ≡ 0 → xpower (n / 4) ≡ c → r ≡ next_key k (at_multiple k c)
+pub next_4 : (n c : ℕ) {key k r : List ℕ} {ks : List (List ℕ)} → n % 4 ≡ 0 → xpower (n / 4) ≡ c → r ≡ next_key k (at_multiple k c)
     → Made 4 n key (k ∷ ks) → Made 4 (suc (suc (suc (suc n)))) key (r ∷ k ∷ ks)
 unfolding at_multiple
-next-4 n c {key} {k} {r} {ks} h x e m =
+next_4 n c {key} {k} {r} {ks} h x e m =
     let i : (4 + n) / 4 - 1 ≡ n / 4 = omega arith in
     let z : (4 + n) % 4 ≡ 0 = omega arith in
     let t = temp_multiple 4 (4 + n) c _ z (ap xpower i ∙ x) in
     made k _ (step 4 plain_4 n key k _ _ z m.are t refl (λ a. refl) (λ a b. refl) (λ a b d. refl)) m.each e
 
--- ____ a key of eight words
+-- ---- a key of eight words
 
 words-of_halves : (k l : List ℕ) → words 8 0 (joined k ++ l) ≡ all_words (l ∷ k ∷ [])
 unfolding words key_words word_of

@@ -9,7 +9,7 @@ use Rattle.octets.proofs.Every.{every, at, is, entry, both, both_left, both_righ
 use Rattle.aes_words.specs.Words.{Bytes, byte0, byte1, byte2, byte3}
 use Rattle.aes_tables.specs.Tables.{SubBytesTable, SubMixTable}
 use Rattle.rijndael.specs.Field.{IsInverse, affine, inverse, sbox, mul}
-use Rattle.rijndael.proofs.Inverse.{inverse-is}
+use Rattle.rijndael.proofs.Inverse.{inverse_is}
 
 -- the bytes of w are f0 k, f1 k, f2 k and f3 k
 abbrev are_bytes : (f0 f1 f2 f3 : ℕ → ℕ) → ℕ → ℕ → Bool
@@ -40,4 +40,4 @@ sub-bytes-table {xs} e t = record { entry = λ k h. entry sbox xs t k (rw e h) }
 -- 5.1.1, at each of the 256 entries: the affine transformation of the byte's inverse
 pub inverse_then_affine : {xs : List ℕ} → SubBytesTable xs → (k : ℕ) → k < 256 → (get_or xs k 0 ≡ affine (inverse k)) × IsInverse k (inverse k)
 unfolding sbox
-inverse_then_affine t k h = (t.entry k h, inverse-is k h)
+inverse_then_affine t k h = (t.entry k h, inverse_is k h)

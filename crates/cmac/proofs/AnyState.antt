@@ -18,12 +18,12 @@ use Rattle.cmac.specs.declared.Mac.{Mac}
 use Rattle.cmac.specs.Running.{waiting, room, within, beyond, updated, finished, Holds}
 use Rattle.cmac.proofs.Streaming.{chain-front, recounted, running_within, running_beyond, running_end}
 
-same-state : {c c' b b' : List ℕ} {f f' : ℕ} → c ≡ c' → b ≡ b' → f ≡ f'
+same_state : {c c' b b' : List ℕ} {f f' : ℕ} → c ≡ c' → b ≡ b' → f ≡ f'
     → ◌≡◌ {A = Mac} (record { chain = c; buffer = b; filled = f }) (record { chain = c'; buffer = b'; filled = f' })
-same-state ec eb ef = λ i. record { chain = ec i; buffer = eb i; filled = ef i }
+same_state ec eb ef = λ i. record { chain = ec i; buffer = eb i; filled = ef i }
 
 module _ (E : List ℕ → List ℕ) (s : Mac) where
-  -- ____ by the way that the code takes, where n bytes wait
+  -- ---- by the way that the code takes, where n bytes wait
 
   module _ (x : List ℕ) where
     abbrev updated_if : Bool → Mac
@@ -35,7 +35,7 @@ module _ (E : List ℕ → List ℕ) (s : Mac) where
 
     within_now : Within (waiting s)
     unfolding updated within
-    within_now buffer' fits eb = same-state refl eb refl ∙ sym (ap updated_if (le-leb (length x) (room s) fits))
+    within_now buffer' fits eb = same_state refl eb refl ∙ sym (ap updated_if (le-leb (length x) (room s) fits))
 
     pub updated-within : (n : ℕ) → n ≡ waiting s → Within n
     updated-within n e = subst Within (sym e) within_now
@@ -86,7 +86,7 @@ module _ (E : List ℕ → List ℕ) (s : Mac) where
         ∙ ap (λ (l : List ℕ). cbc_mac E (cbc_mac E s.chain block 1) l (blocks_before (length l))) d₂ in
         let b₂ = e₂ ∙ ap₂ (λ (b l : List ℕ). paste b 0 l (length l)) e₁ d₃ in
         let f₂ : length x₂ - w ≡ length (drop (blocks_before (length rest) * 16) rest) = sym (length-drop w x₂) ∙ ap length (sym (part_all x₂ w) ∙ d₃) in
-        same-state c₂ b₂ f₂ ∙ sym (ap updated_if (lt-leb (length x) (room s) passes))
+        same_state c₂ b₂ f₂ ∙ sym (ap updated_if (lt-leb (length x) (room s) passes))
 
     pub updated-beyond : (n : ℕ) → n ≡ waiting s → Beyond n
     updated-beyond n e = subst Beyond (sym e) beyond_now
@@ -99,7 +99,7 @@ module _ (E : List ℕ → List ℕ) (s : Mac) where
       ∙ ap (λ (k : ℕ). cbc_mac E s.chain last (block_count k)) size
       ∙ ap (λ (l : List ℕ). cbc_mac E s.chain l 1) (el ∙ ap (λ (k : ℕ). last_block E (take k s.buffer)) e)
 
--- ____ of a state that holds a message
+-- ---- of a state that holds a message
 
 module _ (E : List ℕ → List ℕ) (s : Mac) (m x : List ℕ) (h : Holds s E m) where
   held : (b : Bool) → leb (length x) (room s) ≡ b → Holds (updated E s x) E (m ++ x)
@@ -118,17 +118,17 @@ module _ (E : List ℕ → List ℕ) (s : Mac) (m x : List ℕ) (h : Holds s E m
       (running_beyond E h' x (omega (arith, passes)) refl refl refl refl)
 
   -- it takes in a piece
-  pub updated-holds : Holds (updated E s x) E (m ++ x)
-  updated-holds = held (leb (length x) (room s)) refl
+  pub updated_holds : Holds (updated E s x) E (m ++ x)
+  updated_holds = held (leb (length x) (room s)) refl
 
 -- the same of what the code hands back
-pub takes-in : {E : List ℕ → List ℕ} (s : Mac) (x : List ℕ) {s' : Mac} {m : List ℕ} → s' ≡ updated E s x → Holds s E m → Holds s' E (m ++ x)
-takes-in {E} s x {s'} {m} e h = subst (λ (t : Mac). Holds t E (m ++ x)) (sym e) (updated-holds E s m x h)
+pub takes_in : {E : List ℕ → List ℕ} (s : Mac) (x : List ℕ) {s' : Mac} {m : List ℕ} → s' ≡ updated E s x → Holds s E m → Holds s' E (m ++ x)
+takes_in {E} s x {s'} {m} e h = subst (λ (t : Mac). Holds t E (m ++ x)) (sym e) (updated_holds E s m x h)
 
 -- and it ends
-pub finished-is : (E : List ℕ → List ℕ) (s : Mac) (m : List ℕ) → Holds s E m → finished E s ≡ cmac E m
+pub finished_is : (E : List ℕ → List ℕ) (s : Mac) (m : List ℕ) → Holds s E m → finished E s ≡ cmac E m
 unfolding finished
-finished-is E s m h = running_end E (recounted E (waiting s) refl h) _ refl
+finished_is E s m h = running_end E (recounted E (waiting s) refl h) _ refl
 
 pub ends_with : {E : List ℕ → List ℕ} (s : Mac) {m r : List ℕ} → r ≡ finished E s → Holds s E m → r ≡ cmac E m
-ends_with {E} s {m} e h = e ∙ finished-is E s m h
+ends_with {E} s {m} e h = e ∙ finished_is E s m h

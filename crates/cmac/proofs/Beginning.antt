@@ -8,9 +8,9 @@ use Rattle.cmac.specs.declared.Mac.{Mac}
 use Rattle.cmac.specs.Running.{Holds, nothing_taken}
 use Rattle.cmac.proofs.Streaming.{running_start}
 
-pub nothing-holds : (E : List ℕ → List ℕ) → Holds nothing_taken E []
+pub nothing_holds : (E : List ℕ → List ℕ) → Holds nothing_taken E []
 unfolding nothing_taken
-nothing-holds E = running_start E (replicate 16 0) refl
+nothing_holds E = running_start E (replicate 16 0) refl
 
 pub new_holds : (s : Mac) → s ≡ nothing_taken → (E : List ℕ → List ℕ) → Holds s E []
-new_holds s e E = subst (λ (x : Mac). Holds x E []) (sym e) (nothing-holds E)
+new_holds s e E = subst (λ (x : Mac). Holds x E []) (sym e) (nothing_holds E)

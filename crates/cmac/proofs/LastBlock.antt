@@ -13,11 +13,11 @@ use Rattle.octets.proofs.BlockLaws.{zero_padded_exact}
 use Rattle.cmac.specs.Cmac.{k1, k2, last_block}
 
 -- a byte behind the last
-pub padded-with : (n : ℕ) (part : List ℕ) (v : ℕ) → length part < n → set (zero_padded n part) (length part) v ≡ zero_padded n (part ++ (v ∷ []))
+pub padded_with : (n : ℕ) (part : List ℕ) (v : ℕ) → length part < n → set (zero_padded n part) (length part) v ≡ zero_padded n (part ++ (v ∷ []))
 unfolding zero_padded
-padded-with zero part v h = absurd (not-suc-le-zero h)
-padded-with (suc n) [] v h = refl
-padded-with (suc n) (x ∷ part) v h = ap (λ (l : List ℕ). x ∷ l) (padded-with n part v (le_of_suc-le-suc h))
+padded_with zero part v h = absurd (not-suc-le-zero h)
+padded_with (suc n) [] v h = refl
+padded_with (suc n) (x ∷ part) v h = ap (λ (l : List ℕ). x ∷ l) (padded_with n part v (le_of_suc-le-suc h))
 
 module _ (E : List ℕ → List ℕ) (part block : List ℕ) (eb : block ≡ zero_padded 16 part) where
   pub whole-block : (key r : List ℕ) → length part ≡ 16 → key ≡ k1 E → r ≡ xor block key → r ≡ last_block E part
@@ -31,5 +31,5 @@ module _ (E : List ℕ → List ℕ) (part block : List ℕ) (eb : block ≡ zer
   padded-block key r l d ek er =
       let short : length part < 16 = omega (arith, l, d) in
       er
-      ∙ ap₂ xor (ap (λ (b : List ℕ). set b (length part) 0x80) eb ∙ padded-with 16 part 0x80 short) ek
+      ∙ ap₂ xor (ap (λ (b : List ℕ). set b (length part) 0x80) eb ∙ padded_with 16 part 0x80 short) ek
       ∙ sym (rw (ne_eqb (length part) 16 d))

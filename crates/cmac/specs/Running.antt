@@ -11,7 +11,7 @@ use Rattle.cmac.specs.declared.Mac.{Mac}
 unfoldable pub nothing_taken : Mac
 nothing_taken = record { chain = replicate 16 0; buffer = replicate 16 0; filled = 0 }
 
--- ____ any state
+-- ---- any state
 
 -- how many bytes wait in the buffer, and how many more it has room for
 abbrev pub waiting : Mac → ℕ
@@ -42,7 +42,7 @@ module _ (E : List ℕ → List ℕ) where
   unfoldable pub finished : Mac → List ℕ
   finished s = cbc_mac E s.chain (last_block E (take (waiting s) s.buffer)) 1
 
--- ____ the states that calls make
+-- ---- the states that calls make
 
 -- of the bytes m: the chain over the blocks before the last, and the last one, which waits in the first bytes of the buffer, since only
 -- the end of the message says whether it is the last

@@ -64,7 +64,7 @@ module _ (sha512 : Bytes → Bytes) where
         one-hashed = f c.one c.one-hashed;
         other-hashed = f c.other c.other-hashed;
         different = c.different;
-        same-hash = c.same-hash;
+        same_hash = c.same_hash;
       })
   found-more f (inr z) = inr (record { string = z.string; hashed = f z.string z.hashed; zero-hash = z.zero-hash })
 
@@ -74,7 +74,7 @@ module _ (sha512 : Bytes → Bytes) where
     over-length v [] l = l
     over-length v (m ∷ ms) l = over-length (sha512 (v ++ m)) ms (size (v ++ m))
 
-    -- ____ the heart: from the ends of the two lists. Here the last message comes first
+    -- ---- the heart: from the ends of the two lists. Here the last message comes first
 
     value : List Bytes → Bytes
     value [] = fresh_chain
@@ -123,15 +123,15 @@ module _ (sha512 : Bytes → Bytes) where
               one-hashed = Memᴰ.head refl;
               other-hashed = Memᴰ.append_right (x ∷ strings a) (Memᴰ.head refl);
               different = d;
-              same-hash = e;
+              same_hash = e;
             }))
 
-    -- ____ the first message comes first
+    -- ---- the first message comes first
 
-    value-is : (ms acc : List Bytes) → over (value acc) ms ≡ value (reverse_aux ms acc)
+    value_is : (ms acc : List Bytes) → over (value acc) ms ≡ value (reverse_aux ms acc)
     unfolding over value
-    value-is [] acc = refl
-    value-is (m ∷ ms) acc = value-is ms (m ∷ acc)
+    value_is [] acc = refl
+    value_is (m ∷ ms) acc = value_is ms (m ∷ acc)
 
     strings_in : (ms acc : List Bytes) (x : Bytes)
         → Memᴰ x (strings (reverse_aux ms acc)) → Memᴰ x (strings_over (value acc) ms) ⊎ Memᴰ x (strings acc)
@@ -159,7 +159,7 @@ module _ (sha512 : Bytes → Bytes) where
     pub over_agree : (ms ns : List Bytes) → over fresh_chain ms ≡ over fresh_chain ns
         → (ms ≡ ns) ⊎ Found (strings_over fresh_chain ms ++ strings_over fresh_chain ns)
     unfolding value
-    over_agree ms ns e = go (agree (reverse ms) (reverse ns) (sym (value-is ms []) ∙ e ∙ value-is ns []))
+    over_agree ms ns e = go (agree (reverse ms) (reverse ns) (sym (value_is ms []) ∙ e ∙ value_is ns []))
       where
         go : (reverse ms ≡ reverse ns) ⊎ Found (strings (reverse ms) ++ strings (reverse ns))
             → (ms ≡ ns) ⊎ Found (strings_over fresh_chain ms ++ strings_over fresh_chain ns)

@@ -29,7 +29,7 @@ use Rattle.octets.proofs.BoolLaws.{and_true, both, or_true, or_left, or_right, o
 use Rattle.demands.proofs.LineLaws.{none_applies, past_line, past_part}
 use Rattle.demands.proofs.Carrying.{text-tag, text-ciphertext, plaintext-of}
 
--- ____ number 1
+-- ---- number 1
 
 module _ (c : Connection) where
   abbrev dialect : ℕ
@@ -85,7 +85,7 @@ module _ (c : Connection) where
       (both _ _ (both (known_dialect dialect) c.encryption (says_known h.dialect-known) h.on) (ap not (ne_eqb cipher 0 h.some-cipher)))
       (says_fits h.cipher-known)
 
--- ____ the parts of the lists
+-- ---- the parts of the lists
 
 key_passes : (c : Connection) (key : Bytes) → length key ≡ cipher_key_bytes (uses_wide c) → None (key_tests c key)
 key_passes c key l = past_line _ (ap not (eq-eqb (length key) (cipher_key_bytes (uses_wide c)) l)) no_line
@@ -155,7 +155,7 @@ unfolding open_tests
 open_passes P c m s p h known free plain alike e size =
     past_part (header-passes c m h) (past_part (record_passes c s known free plain alike) (text-passes m (plaintext P c m s) p e size))
 
--- ____ 9 and 10, for the plaintext under a key
+-- ---- 9 and 10, for the plaintext under a key
 
 is_some_lem : (o : Option Bytes) → is_some o ≡ true → o ≡ some (get_or o [])
 is_some_lem none e = absurd (let z : ◌≡◌ {A = ℕ} 0 1 = cc in omega arith)
@@ -177,7 +177,7 @@ module _ (cipher : ℕ) (key m : Bytes) where
   pub carried-text : (p : Bytes) → Carries cipher key m p → text ≡ some p
   carried-text p h = plaintext-of cipher key m p h.ciphertext h.tag
 
--- ____ under one key
+-- ---- under one key
 
 module _ (c : Connection) (key : Bytes) (id : ℕ) (w : Lent) (n : ℕ) where
   abbrev m : Bytes
@@ -210,7 +210,7 @@ module _ (c : Connection) (key : Bytes) (id : ℕ) (w : Lent) (n : ℕ) where
       (past_line _ (ap not (eq-eqb (session_id_of m) id o.same_id))
       (text-passes m under o.text (carried-text (cipher_used c) key m o.text o.carried) o.carried.size)))
 
--- ____ with the table
+-- ---- with the table
 
 module _ (c : Connection) (m : Bytes) (s : Session) (n : ℕ) where
   abbrev record_lines : List Test
@@ -225,8 +225,8 @@ module _ (c : Connection) (m : Bytes) (s : Session) (n : ℕ) where
         header = header_says c m (at 1) (at 2) (at 3) (at 4) (at 5) (at 29);
         known = not-false s.used (at 6);
         unconstrained = at 7;
-        not-guest = g.0;
-        not-anonymous = g.1;
+        not_guest = g.0;
+        not_anonymous = g.1;
         same_size = eqb-true (cipher_key_bytes s.wide) (cipher_key_bytes (uses_wide c)) (not-false _ (at 35));
         text = get_or (plaintext suite c m s) [];
         carried = carried_says (cipher_used c) (opening_key c.role s.keys) m (at 9) (at 10);
@@ -238,5 +238,5 @@ module _ (c : Connection) (m : Bytes) (s : Session) (n : ℕ) where
 
   pub says_record : OpensWithRecord c m s n → None record_lines
   says_record o =
-      let plain = neither s.guest s.anonymous o.not-guest o.not-anonymous in
+      let plain = neither s.guest s.anonymous o.not_guest o.not_anonymous in
       open_passes suite c m s o.text o.header o.known o.unconstrained plain o.same_size (record_text o) o.carried.size

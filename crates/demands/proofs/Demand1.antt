@@ -41,28 +41,28 @@ module _ (P : Primitives) where
   orders (sealing c id) w = refl
   orders (opening c) w = refl
 
-  -- ____ not folded
+  -- ---- not folded
 
   mark-zero : (b : Bool) → ◌≡◌ {A = ℕ} (cond b 1 0) 0 → b ≡ false
   mark-zero true e = absurd (omega arith)
   mark-zero false e = refl
 
   module _ (kind : FoldKind) (m : Bytes) (w : Lent) where
-    not-folded : answer P (folding kind m) w ≡ done 0 → None (tests P (folding kind m) w).before × (status_allows kind m ≡ false)
+    not_folded : answer P (folding kind m) w ≡ done 0 → None (tests P (folding kind m) w).before × (status_allows kind m ≡ false)
     unfolding tests
-    not-folded e =
+    not_folded e =
         let p = passes_of (tests P (folding kind m) w) 0 e in
         (p.lines, mark-zero (status_allows kind m) p.visits)
 
-    folded-not : None (tests P (folding kind m) w).before → status_allows kind m ≡ false → answer P (folding kind m) w ≡ done 0
+    folded_not : None (tests P (folding kind m) w).before → status_allows kind m ≡ false → answer P (folding kind m) w ≡ done 0
     unfolding tests
-    folded-not h s = done-of (tests P (folding kind m) w) 0 (record { lines = h; visits = ap (λ (b : Bool). cond b 1 0) s; later-lines = no_line })
+    folded_not h s = done-of (tests P (folding kind m) w) 0 (record { lines = h; visits = ap (λ (b : Bool). cond b 1 0) s; later-lines = no_line })
 
-    not-folded-leaves : answer P (folding kind m) w ≡ done 0 → left P (folding kind m) w ≡ w
+    not_folded-leaves : answer P (folding kind m) w ≡ done 0 → left P (folding kind m) w ≡ w
     unfolding effect
-    not-folded-leaves e =
+    not_folded-leaves e =
         left-done P (folding kind m) w 0 e
-        ∙ ap (λ (b : Bool). with_chain (cond b (P.sha512 (w.chain ++ m)) w.chain) w) (not-folded e).1
+        ∙ ap (λ (b : Bool). with_chain (cond b (P.sha512 (w.chain ++ m)) w.chain) w) (not_folded e).1
 
   pub holds_of : Demand1 P
   holds_of =
@@ -73,8 +73,8 @@ module _ (P : Primitives) where
         answers = λ c w. answers_of (tests P c w);
         unchanged = left-refused P;
         headers = λ a n h e. ap (λ (x : Answer). carried x h) e;
-        not-folded = λ kind m w. (not-folded kind m w, λ h. folded-not kind m w h.0 h.1);
-        not-folded-leaves = not-folded-leaves;
+        not_folded = λ kind m w. (not_folded kind m w, λ h. folded_not kind m w h.0 h.1);
+        not_folded-leaves = not_folded-leaves;
       }
 
 pub demand1 : Demand1 suite

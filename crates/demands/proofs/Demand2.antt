@@ -20,7 +20,7 @@ use Rattle.protocol.specs.Transform.{plaintext_under}
 use Rattle.protocol.specs.Calls.{derivation, folding, sealing_under, opening_under, signing_under, adding, sealing, opening}
 use Rattle.protocol.specs.Calls.{Lent, with_message, with_chain, open_tests, tests, effect, answer, left}
 use Rattle.protocol.specs.Suite.{suite, sha512, kdf, ciphers}
-use Rattle.protocol.proofs.SuiteLaws.{sha512-is, kdf-of_document, cmac-is}
+use Rattle.protocol.proofs.SuiteLaws.{sha512_is, kdf-of_document, cmac_is}
 use Rattle.demands.specs.Lines.{no_line}
 use Rattle.demands.specs.Opening.{Carries, OpensUnderKey, OpensWithRecord}
 use Rattle.demands.specs.Demand2.{key_from, KeysOfPapers, ChainOfPapers, CiphersOfPapers, SealedOfPapers, record_named, opened_with, OpenedOfPapers}
@@ -31,7 +31,7 @@ use Rattle.demands.proofs.Padding.{padded_then_cut}
 use Rattle.demands.proofs.Signing.{signs, signs_if, verifies, verifies_if}
 use Rattle.demands.proofs.Checks.{carried-text, under_key_says, says_under_key, record_says, record_text, says_record}
 
--- ____ keys
+-- ---- keys
 
 of_311 : (wide : Bool) (chain material : Bytes) → keys311 kdf wide chain material ≡ keys311 key_from wide chain material
 of_311 wide chain material =
@@ -69,24 +69,24 @@ keys-of_papers =
       added = λ a. left-done suite (adding a);
     }
 
--- ____ the chain
+-- ---- the chain
 
 mark-one : (b : Bool) → ◌≡◌ {A = ℕ} (cond b 1 0) 1 → b ≡ true
 mark-one true e = refl
 mark-one false e = absurd (omega arith)
 
-folded-in : (kind : FoldKind) (m : Bytes) (w : Lent) → answer suite (folding kind m) w ≡ done 1
+folded_in : (kind : FoldKind) (m : Bytes) (w : Lent) → answer suite (folding kind m) w ≡ done 1
     → left suite (folding kind m) w ≡ with_chain (sha512 (w.chain ++ m)) w
 unfolding tests effect
-folded-in kind m w e =
+folded_in kind m w e =
     left-done suite (folding kind m) w 1 e
     ∙ ap (λ (b : Bool). with_chain (cond b (sha512 (w.chain ++ m)) w.chain) w)
     (mark-one (status_allows kind m) (passes_of (tests suite (folding kind m) w) 1 e).visits)
 
 chain-of_papers : ChainOfPapers
-chain-of_papers = record { folded = λ kind m w e. folded-in kind m w e ∙ ap (λ (v : Bytes). with_chain v w) (sha512-is (w.chain ++ m)) }
+chain-of_papers = record { folded = λ kind m w e. folded_in kind m w e ∙ ap (λ (v : Bytes). with_chain v w) (sha512_is (w.chain ++ m)) }
 
--- ____ the ciphers, and sealing
+-- ---- the ciphers, and sealing
 
 ciphers-of_papers : (key nonce auth text : Bytes) → CiphersOfPapers key nonce auth text
 unfolding suite cipher_of
@@ -102,7 +102,7 @@ sealed-of_papers : SealedOfPapers
 unfolding effect
 sealed-of_papers = record { under_one_key = λ c key id. left-done suite (sealing_under c key id); with_a_table = λ c id. left-done suite (sealing c id) }
 
--- ____ opening under one key
+-- ---- opening under one key
 
 module _ (c : Connection) (key : Bytes) (id : ℕ) (w : Lent) (n : ℕ) where
   key_text : (o : OpensUnderKey c key id w.message n) → plaintext_under ciphers (cipher_used c) key w.message ≡ some o.text
@@ -126,7 +126,7 @@ module _ (c : Connection) (key : Bytes) (id : ℕ) (w : Lent) (n : ℕ) where
       left-done suite (opening_under c key id) w n (key_opens o)
       ∙ ap (λ (p : Option Bytes). with_message (take 52 w.message ++ get_or p []) w) (key_text o)
 
--- ____ opening with the table
+-- ---- opening with the table
 
 module _ (c : Connection) (w : Lent) (n : ℕ) where
   opens-table : answer suite (opening c) w ≡ done n → OpensWithRecord c w.message (record_named w) n
@@ -164,14 +164,14 @@ opened-of_papers =
       with_a_table = λ c w n. (opens-table c w n, table-opens c w n);
       one-text = one-text;
       text_under_key = key_left;
-      text-with-table = table-left;
+      text_with_table = table-left;
     }
 
 signed-of_papers : SignedOfPapers
 unfolding effect
 signed-of_papers =
     record {
-      aes-cmac = cmac-is;
+      aes-cmac = cmac_is;
       signs = λ key w n. (signs key w n, signs_if key w n);
       bytes = λ key. left-done suite (signing_under key);
       verifies = λ key w n. (verifies key w n, verifies_if key w n);

@@ -110,7 +110,7 @@ module _ (P : Primitives) where
   in_order server = (tt, tt)
 
   premises : Premises P ends
-  premises = record { in_order = in_order; same_messages = refl; same_key = refl; id-fits = lit< tt; added-with_success = success; kept = kept }
+  premises = record { in_order = in_order; same_messages = refl; same_key = refl; id-fits = lit< tt; added_with_success = success; kept = kept }
 
   seal_done : (r : Role) → answer P (end_seals before r) (to_seal r) ≡ done 1
   unfolding message_of tests effect seal_tests walk little_endian to_little_endian same_bytes
@@ -125,8 +125,8 @@ module _ (P : Primitives) where
   abbrev received : Role → Lent
   received r = message_and_table (sealed (other r)) (table_left P (on_table (table_at r) (seal_step r)))
 
-  lent-to_open : (r : Role) → LentToOpen P ends r (sealed (other r)) (received r)
-  lent-to_open r = record { called = Memᴰ.tail (Memᴰ.head refl); copied = refl }
+  lent_to_open : (r : Role) → LentToOpen P ends r (sealed (other r)) (received r)
+  lent_to_open r = record { called = Memᴰ.tail (Memᴰ.head refl); copied = refl }
 
 -- the end opens what the other sealed
 abbrev Opened : Primitives → Role → Type 0
@@ -138,14 +138,14 @@ Opened P r =
 pub request_goes_across : Opened suite server
 request_goes_across =
     demand3.sessions (ends suite) (premises suite) client (message_of client) (sealed suite client) 1 (seals suite client) (received suite server)
-    (lent-to_open suite server)
+    (lent_to_open suite server)
 
 pub break_notice-goes_across : Opened suite client
 break_notice-goes_across =
     demand3.sessions (ends suite) (premises suite) server (message_of server) (sealed suite server) 1 (seals suite server) (received suite client)
-    (lent-to_open suite client)
+    (lent_to_open suite client)
 
--- ____ computed
+-- ---- computed
 
 abbrev idle : Primitives
 idle =

@@ -36,7 +36,7 @@ module _ (P : Primitives) where
   unfolding tests effect
   fold_left v kind m l = fold_by (eqb (length v) 64) (admitted m) (status_allows kind m) (P.sha512 (v ++ m)) (only_chain v) (eq-eqb (length v) 64 l)
 
-  -- ____ a finish is that one fold, where the message began from the value
+  -- ---- a finish is that one fold, where the message began from the value
 
   abbrev FromValue : Bytes → Underway → Type 0
   FromValue v u = u.begun ≡ true → u.start ≡ v
@@ -58,11 +58,11 @@ module _ (P : Primitives) where
       fold_by (eqb (length x) 64) (admitted (message_of u)) (status_allows kind (message_of u)) (P.sha512 (u.start ++ message_of u)) (chain_and_underway x u)
       (eq-eqb (length x) 64 l)
 
-  finish-left : (v : Bytes) (kind : FoldKind) (u : Underway) → length v ≡ 64 → FromValue v u
+  finish_left : (v : Bytes) (kind : FoldKind) (u : Underway) → length v ≡ 64 → FromValue v u
       → (left P (fold_finishing kind) (chain_and_underway v u)).chain ≡ cond (goes_in kind (message_of u)) (P.sha512 (v ++ message_of u)) v
-  finish-left v kind u l h = finish_any v kind u l ∙ from_value v kind u h
+  finish_left v kind u l h = finish_any v kind u l ∙ from_value v kind u h
 
-  -- ____ a message under way keeps the value that it began from
+  -- ---- a message under way keeps the value that it began from
 
   begun_from : (v : Bytes) (w : Lent) → FromValue v w.underway → FromValue v (left P (fold_beginning v) w).underway
   unfolding effect
@@ -80,7 +80,7 @@ module _ (P : Primitives) where
       go (done n) = h
       go (refused n) = h
 
-  -- ____ a step folds one message in, or leaves the value
+  -- ---- a step folds one message in, or leaves the value
 
   data Folds (s : Chain) (x : ChainStep) : Type 0 where
     one : (m : Bytes) → folded_in_at s x ≡ m ∷ [] → (chain_left P s x).value ≡ P.sha512 (s.value ++ m) → Folds s x
@@ -104,7 +104,7 @@ module _ (P : Primitives) where
   called s (folding kind m) l = folds_if s (calling (folding kind m)) kind m refl (fold_left s.value kind m l)
   called s (fold_beginning v) l = leaves s _ refl refl
   called s (fold_piece p) l = leaves s _ refl refl
-  called s (fold_finishing kind) l = none refl (finish-left s.value kind not_begun l (λ e. absurd (true≢false (sym e))))
+  called s (fold_finishing kind) l = none refl (finish_left s.value kind not_begun l (λ e. absurd (true≢false (sym e))))
   called s (derivation dialect cipher chain material) l = leaves s _ refl refl
   called s (sealing_under c key id) l = leaves s _ refl refl
   called s (opening_under c key id) l = leaves s _ refl refl
@@ -147,22 +147,22 @@ module _ (P : Primitives) where
   step_by s x b (none f e) = record { folds = none f e; began = λ alone. b e }
 
   -- a call that is handed the state at the place k, and leaves the chain
-  same-chain : (s : Chain) (k : ℕ) (c : Call) → (effect P c (chain_and_underway s.value (s.states k))).chain ≡ s.value
+  same_chain : (s : Chain) (k : ℕ) (c : Call) → (effect P c (chain_and_underway s.value (s.states k))).chain ≡ s.value
       → (left P c (chain_and_underway s.value (s.states k))).chain ≡ s.value
-  same-chain s k c e = left_alone P c (chain_and_underway s.value (s.states k)) (λ (w : Lent). w.chain) e
+  same_chain s k c e = left_alone P c (chain_and_underway s.value (s.states k)) (λ (w : Lent). w.chain) e
 
   steps : (s : Chain) (x : ChainStep) → length s.value ≡ 64 → Began s → Steps s x
   unfolding effect
   steps s (calling c) l b = step_by s (calling c) (λ e k f. b k f ∙ sym e) (called s c l)
   steps s (beginning_at k) l b =
       let w = chain_and_underway s.value (s.states k) in
-      step_by s (beginning_at k) (λ e. began_put s k _ _ e b (begun_from s.value w (b k))) (none refl (same-chain s k (fold_beginning s.value) refl))
+      step_by s (beginning_at k) (λ e. began_put s k _ _ e b (begun_from s.value w (b k))) (none refl (same_chain s k (fold_beginning s.value) refl))
   steps s (piece_at k p) l b =
       let w = chain_and_underway s.value (s.states k) in
-      step_by s (piece_at k p) (λ e. began_put s k _ _ e b (piece_from s.value p w (b k))) (none refl (same-chain s k (fold_piece p) refl))
+      step_by s (piece_at k p) (λ e. began_put s k _ _ e b (piece_from s.value p w (b k))) (none refl (same_chain s k (fold_piece p) refl))
   steps s (finishing_at k kind) l b =
       step_by s (finishing_at k kind) (λ e j. ended e j (eqb j k) refl)
-      (folds_if s (finishing_at k kind) kind (message_of (s.states k)) refl (finish-left s.value kind (s.states k) l (b k)))
+      (folds_if s (finishing_at k kind) kind (message_of (s.states k)) refl (finish_left s.value kind (s.states k) l (b k)))
     where
       ended : (chain_left P s (finishing_at k kind)).value ≡ s.value → (j : ℕ) (x : Bool) → eqb j k ≡ x
           → FromValue (chain_left P s (finishing_at k kind)).value ((chain_left P s (finishing_at k kind)).states j)
@@ -210,7 +210,7 @@ module _ (P : Primitives) where
         (strings_are xs (chain_left P s x) (fold_length t.folds l) (t.began o.0) o.1)
         ∙ fold_strings t.folds (messages_folded_in P (chain_left P s x) xs)
 
-    -- ____ one end: the connection's steps up to the copy, then the session's own
+    -- ---- one end: the connection's steps up to the copy, then the session's own
 
     fresh_length : length fresh_chain ≡ 64
     fresh_length = length-replicate {A = ℕ} 64 0
@@ -226,36 +226,36 @@ module _ (P : Primitives) where
       abbrev own_messages : List Bytes
       own_messages = messages_folded_in P (starting (connection_chain P x)) x.session
 
-      connection-is : connection_chain P x ≡ over P.sha512 fresh_chain connection_messages
-      connection-is = after_is x.connection (starting fresh_chain) fresh_length (starting_began fresh_chain) o.0
+      connection_is : connection_chain P x ≡ over P.sha512 fresh_chain connection_messages
+      connection_is = after_is x.connection (starting fresh_chain) fresh_length (starting_began fresh_chain) o.0
 
       connection-length : length (connection_chain P x) ≡ 64
-      connection-length = ap length connection-is ∙ over-length P.sha512 size fresh_chain connection_messages fresh_length
+      connection-length = ap length connection_is ∙ over-length P.sha512 size fresh_chain connection_messages fresh_length
 
-      session-is : session_chain P x ≡ over P.sha512 fresh_chain (end_messages P x)
-      session-is =
+      session_is : session_chain P x ≡ over P.sha512 fresh_chain (end_messages P x)
+      session_is =
           after_is x.session (starting (connection_chain P x)) connection-length (starting_began (connection_chain P x)) o.1
-          ∙ ap (λ (v : Bytes). over P.sha512 v own_messages) connection-is
+          ∙ ap (λ (v : Bytes). over P.sha512 v own_messages) connection_is
           ∙ sym (over_then P.sha512 fresh_chain connection_messages own_messages)
 
       end_strings_lem : strings_over P.sha512 fresh_chain (end_messages P x) ≡ end_strings P x
       end_strings_lem =
           strings_then P.sha512 fresh_chain connection_messages own_messages
-          ∙ ap (λ (v : Bytes). strings_over P.sha512 fresh_chain connection_messages ++ strings_over P.sha512 v own_messages) (sym connection-is)
+          ∙ ap (λ (v : Bytes). strings_over P.sha512 fresh_chain connection_messages ++ strings_over P.sha512 v own_messages) (sym connection_is)
           ∙ sym (λ i.
           strings_are x.connection (starting fresh_chain) fresh_length (starting_began fresh_chain) o.0 i
           ++ strings_are x.session (starting (connection_chain P x)) connection-length (starting_began (connection_chain P x)) o.1 i)
 
       -- a value that the library made always has its 64 bytes
       pub session-length : length (session_chain P x) ≡ 64
-      session-length = ap length session-is ∙ over-length P.sha512 size fresh_chain (end_messages P x) fresh_length
+      session-length = ap length session_is ∙ over-length P.sha512 size fresh_chain (end_messages P x) fresh_length
 
     pub chains_agree : ChainsAgree P
     chains_agree client server oc os e =
         rw (← end_strings_lem client oc, ← end_strings_lem server os)
-        (over_agree P.sha512 size (end_messages P client) (end_messages P server) (sym (session-is client oc) ∙ e ∙ session-is server os))
+        (over_agree P.sha512 size (end_messages P client) (end_messages P server) (sym (session_is client oc) ∙ e ∙ session_is server os))
 
     -- the same messages folded in, the same value: what the second half starts from
-    pub same-value : (client server : ChainSteps) → EndInOrder P client → EndInOrder P server → end_messages P client ≡ end_messages P server
+    pub same_value : (client server : ChainSteps) → EndInOrder P client → EndInOrder P server → end_messages P client ≡ end_messages P server
         → session_chain P client ≡ session_chain P server
-    same-value client server oc os e = session-is client oc ∙ ap (over P.sha512 fresh_chain) e ∙ sym (session-is server os)
+    same_value client server oc os e = session_is client oc ∙ ap (over P.sha512 fresh_chain) e ∙ sym (session_is server os)

@@ -24,7 +24,7 @@ use Rattle.demands.specs.Chains.{Among}
 use Rattle.demands.specs.Steps.{Step, on_table, table_left, made}
 use Rattle.demands.proofs.Answering.{line-of, later-line-of}
 use Rattle.demands.proofs.CallLaws.{left-done, left_alone}
-use Rattle.demands.proofs.TableLaws.{not_this, is-used, is-id, change_other, fill_other, change_same, fill_same}
+use Rattle.demands.proofs.TableLaws.{not_this, is_used, is_id, change_other, fill_other, change_same, fill_same}
 
 -- what sealing and opening take from a record, besides its counter; any later field may change
 pub record Held : Type 0 where
@@ -90,17 +90,17 @@ pub change_follows : (i : ℕ) (f : Session → Session) → ((x : Session) → 
 change_follows i f same j t h k = go (ℕ_discrete j i)
   where
     itself : j ≡ i → record_of i (change_record f i t) ≡ f (record_of i t)
-    itself p = change_same i f (λ x e. ap (is_held i) (same x) ∙ e) t (is-used i (record_of i t) k)
+    itself p = change_same i f (λ x e. ap (is_held i) (same x) ∙ e) t (is_used i (record_of i t) k)
 
     not_mine : j ≢ i → (x : Session) → is_session j x ≡ true → is_session i (f x) ≡ false
-    not_mine d x e = ap (is_held i) (same x) ∙ not_this i x (λ q. d (sym (is-id j x e) ∙ q))
+    not_mine d x e = ap (is_held i) (same x) ∙ not_this i x (λ q. d (sym (is_id j x e) ∙ q))
 
     go : Dec (j ≡ i) → Follows (record_of i t) (record_of i (change_record f j t))
     go (yes p) = rw (p, itself p) (rw p at h)
     go (no d) = follows_self (change_other i j (λ q. d (sym q)) f (not_mine d) t)
 
 module _ (P : Primitives) where
-  -- ____ adding with success
+  -- ---- adding with success
 
   record Added (a : Adding) (t : List Session) : Type 0 where
     new_id : (record_of a.id t).used ≡ false
@@ -124,7 +124,7 @@ module _ (P : Primitives) where
   pub added_present : (a : Adding) (w : Lent) (n : ℕ) → answer P (adding a) w ≡ done n → Present a.id (left P (adding a) w).table
   added_present a w n e = ap (is_session a.id) (added_record a w n e) ∙ eq-eqb a.id a.id refl
 
-  -- ____ every call but the removal of the session
+  -- ---- every call but the removal of the session
 
   module _ (i : ℕ) where
     -- what a call leaves of the session's record
@@ -149,7 +149,7 @@ module _ (P : Primitives) where
       where
         go : Dec (a.id ≡ i) → Follows (record_of i w.table) (record_of i (fill_free (new_record P.kdf a) w.table))
         go (yes p) =
-            let u : (record_of a.id w.table).used ≡ true = rw p (is-used i (record_of i w.table) k) in
+            let u : (record_of a.id w.table).used ≡ true = rw p (is_used i (record_of i w.table) k) in
             absurd (true≢false (sym u ∙ (add_says a w n e).new_id))
         go (no d) = follows_self (fill_other i a.id (λ q. d (sym q)) (new_record P.kdf a) refl w.table)
 

@@ -34,7 +34,7 @@ pub record SealedAs (P : Primitives) (sender : Role) (cipher : ℕ) (key : Bytes
   pub walked : Walked (inner m) (sent_by sender id) n
   pub bytes : b ≡ sealed_under P.ciphers cipher key counter id (inner m)
 
--- ____ a seal of the table
+-- ---- a seal of the table
 
 module _ (P : Primitives) (c : Connection) (id : ℕ) (w : Lent) (n : ℕ) (e : answer P (sealing c id) w ≡ done n) where
   -- its connection encrypts
@@ -54,14 +54,14 @@ module _ (P : Primitives) (c : Connection) (id : ℕ) (w : Lent) (n : ℕ) (e : 
         bytes = ap (λ (x : Lent). x.message) (left-done P (sealing c id) w n e);
       }
 
--- ____ an opening of the table
+-- ---- an opening of the table
 
 -- the plaintext from the message's fields
-plaintext-is : (P : Primitives) (d : Connection) (b : Bytes) (s : Session) {key nonce auth sig body : Bytes}
+plaintext_is : (P : Primitives) (d : Connection) (b : Bytes) (s : Session) {key nonce auth sig body : Bytes}
     → opening_key d.role s.keys ≡ key → nonce_field b ≡ nonce → authenticated_of b ≡ auth → signature_of b ≡ sig → inner b ≡ body
     → plaintext P d b s ≡ P.ciphers.decrypt (cipher_used d) key nonce auth sig body
 unfolding plaintext_under
-plaintext-is P d b s e1 e2 e3 e4 e5 = λ i. P.ciphers.decrypt (cipher_used d) (e1 i) (e2 i) (e3 i) (e4 i) (e5 i)
+plaintext_is P d b s e1 e2 e3 e4 e5 = λ i. P.ciphers.decrypt (cipher_used d) (e1 i) (e2 i) (e3 i) (e4 i) (e5 i)
 
 -- what an opening leaves from byte 52 on
 opened-inner : (b p : Bytes) (o : Option Bytes) → o ≡ some p → 52 < length b → inner (opened_to b o) ≡ p
@@ -125,7 +125,7 @@ finds P sound d sender key id m b s n fits says on opening-key = rw says.bytes f
           size = field_size sig body k (length p) id l (omega (arith, says.short)) ∙ sym inner-length;
           named = field_id sig body k (length p) id l fits;
           text =
-              plaintext-is P d sealed s opening-key
+              plaintext_is P d sealed s opening-key
               (field_nonce sig body k (length p) id l)
               (field_authenticated sig body k (length p) id l)
               (field_signature sig body k (length p) id l)

@@ -25,16 +25,16 @@ joined-append [] qs = refl
 joined-append (p ∷ ps) qs = ap (λ (r : Bytes). p ++ r) (joined-append ps qs) ∙ sym (append_assoc p (joined_bytes ps) (joined_bytes qs))
 
 module _ (P : Primitives) where
-  begun-is : (v : Bytes) → length v ≡ 64 → begun_on P v ≡ begun_from v
+  begun_is : (v : Bytes) → length v ≡ 64 → begun_on P v ≡ begun_from v
   unfolding tests effect
-  begun-is v l =
+  begun_is v l =
       let w = only_underway not_begun in
       ap (λ (fits : Bool). (when_done (cond (not fits) (refused 40) (done 0)) (λ n. effect P (fold_beginning v) w) w).underway) (eq-eqb (length v) 64 l)
 
-  -- ____ one piece
+  -- ---- one piece
 
   record Hands (u : Underway) (p : Bytes) : Type 0 where
-    same-begun : (handed_on P u p).begun ≡ u.begun
+    same_begun : (handed_on P u p).begun ≡ u.begun
     same_start : (handed_on P u p).start ≡ u.start
     more : (handed_on P u p).joined ≡ u.joined ++ joined_bytes (when_done (answer P (fold_piece p) (only_underway u)) (λ n. p ∷ []) [])
 
@@ -46,7 +46,7 @@ module _ (P : Primitives) where
   unfolding effect with_piece
   hands u p =
       let a = answer P (fold_piece p) (only_underway u) in
-      record { same-begun = begun a; same_start = start a; more = more a }
+      record { same_begun = begun a; same_start = start a; more = more a }
     where
       begun : (a : Answer) → (after u p a).begun ≡ u.begun
       begun (done n) = refl
@@ -60,11 +60,11 @@ module _ (P : Primitives) where
       more (done n) = ap (λ (r : Bytes). u.joined ++ r) (sym (append-nil p))
       more (refused n) = sym (append-nil u.joined)
 
-  -- ____ all pieces
+  -- ---- all pieces
 
   all_begun : (ps : List Bytes) (u : Underway) → (after_pieces P u ps).begun ≡ u.begun
   all_begun [] u = refl
-  all_begun (p ∷ ps) u = all_begun ps (handed_on P u p) ∙ (hands u p).same-begun
+  all_begun (p ∷ ps) u = all_begun ps (handed_on P u p) ∙ (hands u p).same_begun
 
   all_start : (ps : List Bytes) (u : Underway) → (after_pieces P u ps).start ≡ u.start
   all_start [] u = refl
@@ -84,28 +84,28 @@ module _ (P : Primitives) where
     abbrev last : Underway
     last = after_pieces P (begun_on P v) ps
 
-    is-begun : last.begun ≡ true
-    is-begun = all_begun ps (begun_on P v) ∙ ap (λ (u : Underway). u.begun) (begun-is v l)
+    is_begun : last.begun ≡ true
+    is_begun = all_begun ps (begun_on P v) ∙ ap (λ (u : Underway). u.begun) (begun_is v l)
 
-    message-is : message_of last ≡ message_joined P v ps
-    message-is =
-        ap (λ (b : Bool). cond b last.joined []) is-begun
+    message_is : message_of last ≡ message_joined P v ps
+    message_is =
+        ap (λ (b : Bool). cond b last.joined []) is_begun
         ∙ all_joined ps (begun_on P v)
-        ∙ ap (λ (u : Underway). u.joined ++ joined_bytes (not_refused P (begun_on P v) ps)) (begun-is v l)
+        ∙ ap (λ (u : Underway). u.joined ++ joined_bytes (not_refused P (begun_on P v) ps)) (begun_is v l)
 
     start_is : last.start ≡ v
-    start_is = all_start ps (begun_on P v) ∙ ap (λ (u : Underway). u.start) (begun-is v l)
+    start_is = all_start ps (begun_on P v) ∙ ap (λ (u : Underway). u.start) (begun_is v l)
 
-    answer-is : (kind : FoldKind) → answer P (fold_finishing kind) (chain_and_underway v last) ≡ answer P (folding kind (message_joined P v ps)) (only_chain v)
+    answer_is : (kind : FoldKind) → answer P (fold_finishing kind) (chain_and_underway v last) ≡ answer P (folding kind (message_joined P v ps)) (only_chain v)
     unfolding tests
-    answer-is kind = ap (λ (m : Bytes). answer P (folding kind m) (only_chain v)) message-is
+    answer_is kind = ap (λ (m : Bytes). answer P (folding kind m) (only_chain v)) message_is
 
-    finished-is : (kind : FoldKind) (x : Bytes) → length x ≡ 64
+    finished_is : (kind : FoldKind) (x : Bytes) → length x ≡ 64
         → (left P (fold_finishing kind) (chain_and_underway x last)).chain
         ≡ cond (goes_in kind (message_joined P v ps)) (P.sha512 (v ++ message_joined P v ps)) x
-    finished-is kind x k = finish_any P x kind last k ∙ (λ i. cond (goes_in kind (message-is i)) (P.sha512 (start_is i ++ message-is i)) x)
+    finished_is kind x k = finish_any P x kind last k ∙ (λ i. cond (goes_in kind (message_is i)) (P.sha512 (start_is i ++ message_is i)) x)
 
-  -- ____ no piece is refused
+  -- ---- no piece is refused
 
   taken : (u : Underway) (p : Bytes) → piece_fits u p ≡ true → answer P (fold_piece p) (only_underway u) ≡ done 0
   unfolding tests
@@ -126,13 +126,13 @@ module _ (P : Primitives) where
   unfolding effect
   holds_of =
       record {
-        same_answer = λ kind v ps l. answer-is v l ps kind;
-        same-value = λ kind v ps l. finished-is v l ps kind v l ∙ sym (fold_left P v kind (message_joined P v ps) l);
+        same_answer = λ kind v ps l. answer_is v l ps kind;
+        same_value = λ kind v ps l. finished_is v l ps kind v l ∙ sym (fold_left P v kind (message_joined P v ps) l);
         from_start = λ kind v x ps l k g.
-            finished-is v l ps kind x k
+            finished_is v l ps kind x k
             ∙ ap (λ (b : Bool). cond b (P.sha512 (v ++ message_joined P v ps)) x) g
             ∙ sym (fold_left P v kind (message_joined P v ps) l ∙ ap (λ (b : Bool). cond b (P.sha512 (v ++ message_joined P v ps)) v) g);
-        all_taken = λ v ps l h. rw (begun-is v l) (none-refused ps (begun_from v) refl (omega (arith, h)));
+        all_taken = λ v ps l h. rw (begun_is v l) (none-refused ps (begun_from v) refl (omega (arith, h)));
         begin_leaves = λ v w. left_alone P (fold_beginning v) w (λ (x : Lent). x.chain) refl;
         piece_leaves = λ p w. left_alone P (fold_piece p) w (λ (x : Lent). x.chain) refl;
       }

@@ -17,17 +17,17 @@ use Rattle.protocol.specs.Calls.{Call, folding, tests, effect}
 use Rattle.demands.specs.Chains.{ChainStep, ChainSteps, starting, chain_left, chain_after, calling, beginning_at, piece_at, finishing_at, abandoning_at}
 use Rattle.demands.specs.Chains.{InOrder, end_messages, EndInOrder}
 
--- ____ calls alone
+-- ---- calls alone
 
 abbrev calls_alone : List Call → List ChainStep
 calls_alone [] = []
 calls_alone (c ∷ cs) = calling c ∷ calls_alone cs
 
-pub calls_in-order : (P : Primitives) (cs : List Call) (v : Bytes) → InOrder P (starting v) (calls_alone cs)
-calls_in-order P [] v = tt
-calls_in-order P (c ∷ cs) v = (λ m e k. refl, calls_in-order P cs _)
+pub calls_in_order : (P : Primitives) (cs : List Call) (v : Bytes) → InOrder P (starting v) (calls_alone cs)
+calls_in_order P [] v = tt
+calls_in_order P (c ∷ cs) v = (λ m e k. refl, calls_in_order P cs _)
 
--- ____ a message in pieces
+-- ---- a message in pieces
 
 abbrev before_finish : List ChainStep
 before_finish = beginning_at 0 ∷ piece_at 0 (replicate 30 7) ∷ beginning_at 1 ∷ piece_at 0 (replicate 34 7) ∷ abandoning_at 1 ∷ []
@@ -39,13 +39,13 @@ abbrev at_once : ChainSteps
 at_once = record { connection = calling (folding negotiate_message (replicate 64 7)) ∷ []; session = [] }
 
 -- a step that folds nothing in
-nothing-in : {A : Type 0} (m : Bytes) → ◌≡◌ {A = List Bytes} [] (m ∷ []) → A
-nothing-in m e = let z : ◌≡◌ {A = ℕ} 0 1 = ap length e in absurd (omega arith)
+nothing_in : {A : Type 0} (m : Bytes) → ◌≡◌ {A = List Bytes} [] (m ∷ []) → A
+nothing_in m e = let z : ◌≡◌ {A = ℕ} 0 1 = ap length e in absurd (omega arith)
 
 module _ (P : Primitives) where
-  same-message : end_messages P in_pieces ≡ end_messages P at_once
+  same_message : end_messages P in_pieces ≡ end_messages P at_once
   unfolding tests effect with_piece
-  same-message = refl
+  same_message = refl
 
   -- neither place has a message after the finish
   none_left : (k : ℕ) (a : Bool) → eqb k 0 ≡ a → (b : Bool) → eqb k 1 ≡ b
@@ -57,17 +57,17 @@ module _ (P : Primitives) where
   in_order : EndInOrder P in_pieces
   in_order = (
     (
-      λ m e k. nothing-in m e,
+      λ m e k. nothing_in m e,
       (
-        λ m e k. nothing-in m e,
+        λ m e k. nothing_in m e,
         (
-          λ m e k. nothing-in m e,
-          (λ m e k. nothing-in m e, (λ m e k. nothing-in m e, (λ m e k. none_left k (eqb k 0) refl (eqb k 1) refl, tt))),
+          λ m e k. nothing_in m e,
+          (λ m e k. nothing_in m e, (λ m e k. nothing_in m e, (λ m e k. none_left k (eqb k 0) refl (eqb k 1) refl, tt))),
         ),
       ),
     ),
     tt,
   )
 
-  at_once_in-order : EndInOrder P at_once
-  at_once_in-order = ((λ m e k. refl, tt), tt)
+  at_once_in_order : EndInOrder P at_once
+  at_once_in_order = ((λ m e k. refl, tt), tt)

@@ -24,7 +24,7 @@ use Rattle.protocol.specs.Signing.{is_signed, with_signed_flag, with_signature, 
 use Rattle.protocol.specs.Calls.{signing_under, verifying_under, Lent, verdict, lines, sign_tests, verify_tests, tests, effect, answer, left}
 use Rattle.protocol.specs.Suite.{suite, cmac}
 use Rattle.protocol.proofs.Judging.{line}
-use Rattle.protocol.proofs.SuiteLaws.{cmac-is, suite_sound}
+use Rattle.protocol.proofs.SuiteLaws.{cmac_is, suite_sound}
 use Rattle.protocol.proofs.BytesLaws.{skip}
 use Rattle.protocol.proofs.SignedBytes.{flagged_length}
 use Rattle.demands.specs.Lines.{None, no_line}
@@ -37,7 +37,7 @@ use Rattle.demands.proofs.LineLaws.{none_applies, past_line, past_part}
 abbrev magic : Bytes
 magic = 0xFE ∷ 0x53 ∷ 0x4D ∷ 0x42 ∷ []
 
--- ____ the checks
+-- ---- the checks
 
 module _ (key m : Bytes) where
   sign_passes : SignChecks key m → None (sign_tests key m)
@@ -63,9 +63,9 @@ module _ (key m : Bytes) where
       checks-of (at 40) (at 3) (at 11) (at 12)
 
   -- 25: the signature that the message should have, in full
-  signature-is : signature_under cmac key m ≡ rfc4493.cmac (aes key) (take 48 m ++ (replicate 16 0 ++ drop 64 m))
+  signature_is : signature_under cmac key m ≡ rfc4493.cmac (aes key) (take 48 m ++ (replicate 16 0 ++ drop 64 m))
   unfolding signature_under with_signature
-  signature-is = cmac-is key (take 48 m ++ (replicate 16 0 ++ drop 64 m))
+  signature_is = cmac_is key (take 48 m ++ (replicate 16 0 ++ drop 64 m))
 
   abbrev right : Bytes
   right = signature_under cmac key m
@@ -74,7 +74,7 @@ module _ (key m : Bytes) where
   verify_passes v =
       past_part (sign_passes v.checks)
       (past_line _ (ap not (eq-eqb (number_at 16 4 m / 8 % 2) 1 v.flag))
-      (past_line _ (ap not (ap (λ (x : Bytes). same_bytes x right) (v.signature ∙ sym signature-is) ∙ same_self right)) no_line))
+      (past_line _ (ap not (ap (λ (x : Bytes). same_bytes x right) (v.signature ∙ sym signature_is) ∙ same_self right)) no_line))
 
   says_verify : None (verify_tests key m right) → Verifies key m
   says_verify h =
@@ -82,10 +82,10 @@ module _ (key m : Bytes) where
       record {
         checks = checks-of (at 40) (at 3) (at 11) (at 12);
         flag = eqb-true (number_at 16 4 m / 8 % 2) 1 (not-false (is_signed m) (at 24));
-        signature = same_equal (bytes_at 48 16 m) right (not-false (same_bytes (bytes_at 48 16 m) right) (at 25)) ∙ signature-is;
+        signature = same_equal (bytes_at 48 16 m) right (not-false (same_bytes (bytes_at 48 16 m) right) (at 25)) ∙ signature_is;
       }
 
--- ____ the answers, both ways
+-- ---- the answers, both ways
 
 module _ (key : Bytes) (w : Lent) (n : ℕ) where
   pub signs : answer suite (signing_under key) w ≡ done n → SignChecks key w.message × (n ≡ 0)
@@ -112,11 +112,11 @@ module _ (key : Bytes) (w : Lent) (n : ℕ) where
       done-of (tests suite (verifying_under key) w) n
       (record { lines = verify_passes key w.message h.0; visits = sym h.1; later-lines = no_line })
 
--- ____ parts of a message behind a front that stays
+-- ---- parts of a message behind a front that stays
 
 module _ (a r r' : Bytes) where
-  same-front : (k : ℕ) → k ≤ length a → take k (a ++ r) ≡ take k (a ++ r')
-  same-front k h = take-append-le k a r h ∙ sym (take-append-le k a r' h)
+  same_front : (k : ℕ) → k ≤ length a → take k (a ++ r) ≡ take k (a ++ r')
+  same_front k h = take-append-le k a r h ∙ sym (take-append-le k a r' h)
 
   same_part : (k j : ℕ) → k + j ≤ length a → bytes_at k j (a ++ r) ≡ bytes_at k j (a ++ r')
   same_part k j h =
@@ -153,7 +153,7 @@ module _ (m : Bytes) (long : 64 ≤ length m) where
   flagged_front : take 4 (with_signed_flag m) ≡ take 4 m
   unfolding with_signed_flag
   flagged_front =
-      same-front (take 16 m) (flags ++ drop 20 m) (drop 16 m) 4 (omega (arith, l16)) ∙ ap (take 4) (take-append-drop 16 m)
+      same_front (take 16 m) (flags ++ drop 20 m) (drop 16 m) 4 (omega (arith, l16)) ∙ ap (take 4) (take-append-drop 16 m)
 
   flagged_flags : bytes_at 16 4 (with_signed_flag m) ≡ flags
   unfolding with_signed_flag
@@ -172,7 +172,7 @@ module _ (s m : Bytes) (size : length s ≡ 16) (long : 64 ≤ length m) where
 
   stored-front : take 4 (with_signature s m) ≡ take 4 m
   unfolding with_signature
-  stored-front = same-front (take 48 m) (s ++ drop 64 m) (drop 48 m) 4 (omega (arith, l48)) ∙ ap (take 4) (take-append-drop 48 m)
+  stored-front = same_front (take 48 m) (s ++ drop 64 m) (drop 48 m) 4 (omega (arith, l48)) ∙ ap (take 4) (take-append-drop 48 m)
 
   stored-flags : bytes_at 16 4 (with_signature s m) ≡ bytes_at 16 4 m
   unfolding with_signature
@@ -189,7 +189,7 @@ module _ (s m : Bytes) (size : length s ≡ 16) (long : 64 ≤ length m) where
       ap₂ (λ (a b : Bytes). a ++ (z ++ b)) (take_at (take 48 m) (s ++ drop 64 m) 48 l48)
       (skip (take 48 m) (s ++ drop 64 m) 48 16 l48 ∙ drop_at s (drop 64 m) 16 size)
 
--- ____ what signing leaves passes every check
+-- ---- what signing leaves passes every check
 
 signed-passes : (key m : Bytes) → SignChecks key m → Verifies key (signed_under cmac key m)
 unfolding signed_under signature_under
@@ -215,7 +215,7 @@ signed-passes key m h =
       signature =
           stored-signature s f size long
           ∙ ap (cmac key) (sym (stored-again s f size long (replicate 16 0)))
-          ∙ signature-is key (with_signature s f);
+          ∙ signature_is key (with_signature s f);
     }
 
 across : (key : Bytes) (w v : Lent) (n : ℕ) → answer suite (signing_under key) w ≡ done n → v.message ≡ (left suite (signing_under key) w).message

@@ -24,7 +24,7 @@ use Rattle.demands.proofs.Answering.{line-of}
 use Rattle.demands.proofs.CallLaws.{left-done}
 use Rattle.demands.proofs.Signing.{signs, stored-signature}
 
--- ____ one piece
+-- ---- one piece
 
 abbrev under : Bytes → Bytes → Underway
 under key m = record { begun = true; start = key; joined = m }
@@ -33,9 +33,9 @@ module _ (u : Underway) (p : Bytes) where
   abbrev by : Bool → Answer
   by b = cond (not b) (refused 3) (done 0)
 
-  answer-is : answer suite (sign_piece p) (only_underway u) ≡ by (piece_fits u p)
+  answer_is : answer suite (sign_piece p) (only_underway u) ≡ by (piece_fits u p)
   unfolding tests
-  answer-is = refl
+  answer_is = refl
 
   left_is : (b : Bool) → piece_fits u p ≡ b → handed_on u p ≡ cond b (with_piece p u) u
   unfolding tests effect
@@ -47,13 +47,13 @@ module _ (u : Underway) (p : Bytes) where
       go false = refl
 
   taken_is : (b : Bool) → piece_fits u p ≡ b → when_done (answer suite (sign_piece p) (only_underway u)) (λ n. p) [] ≡ cond b p []
-  taken_is b e = ap (λ (a : Answer). when_done a (λ n. p) []) (answer-is ∙ ap by e) ∙ go b
+  taken_is b e = ap (λ (a : Answer). when_done a (λ n. p) []) (answer_is ∙ ap by e) ∙ go b
     where
       go : (x : Bool) → when_done (by x) (λ n. p) [] ≡ cond x p []
       go true = refl
       go false = refl
 
--- ____ every list of pieces
+-- ---- every list of pieces
 
 record Joins (key m : Bytes) (ps : List Bytes) : Type 0 where
   state : after_pieces (under key m) ps ≡ under key (m ++ joined_not_refused (under key m) ps)
@@ -88,7 +88,7 @@ joins key (p ∷ ps) m h = go (joins key ps) (piece_fits (under key m) p) refl
     go rest false e =
         on [] (left_is u p false e ∙ ap (under key) (sym (append-nil m))) (taken_is u p false e) (rest (m ++ []) (rw (append-nil m) h))
 
--- ____ the finish
+-- ---- the finish
 
 module _ (key m : Bytes) (size : length key ≡ 16) (short : length m ≤ longest_message) where
   abbrev u : Underway
@@ -99,21 +99,21 @@ module _ (key m : Bytes) (size : length key ≡ 16) (short : length m ≤ longes
   past a =
       ap₂ (λ (b c : Bool). cond (not b) (refused 40) (cond c (refused 3) a)) (eq-eqb (length key) 16 size) (le-ltb longest_message (length m) short)
 
-  signs-same : (place : Bytes) → length place ≡ 16 → answer suite (sign_finishing u) (only_signature place) ≡ answer suite (signing_under key) (only_message m)
+  signs_same : (place : Bytes) → length place ≡ 16 → answer suite (sign_finishing u) (only_signature place) ≡ answer suite (signing_under key) (only_message m)
   unfolding tests
-  signs-same place l =
+  signs_same place l =
       let a = judge (joined_tests u) (done 0) in
       ap (λ (b : Bool). cond (not b) (refused 40) a) (eq-eqb (length place) 16 l) ∙ sym (past a)
 
-  verifies-same : (w : Lent) → answer suite (verify_finishing u) w ≡ answer suite (verifying_under key) (only_message m)
+  verifies_same : (w : Lent) → answer suite (verify_finishing u) w ≡ answer suite (verifying_under key) (only_message m)
   unfolding tests
-  verifies-same w = sym (past (judge (verify_finish_tests u (signature_under cmac key m)) (done 0)))
+  verifies_same w = sym (past (judge (verify_finish_tests u (signature_under cmac key m)) (done 0)))
 
-  signature-same : (place : Bytes) (n : ℕ) → length place ≡ 16 → answer suite (sign_finishing u) (only_signature place) ≡ done n
+  signature_same : (place : Bytes) (n : ℕ) → length place ≡ 16 → answer suite (sign_finishing u) (only_signature place) ≡ done n
       → (left suite (sign_finishing u) (only_signature place)).signature ≡ signature_field (left suite (signing_under key) (only_message m)).message
   unfolding effect signature_of signed_under signature_under
-  signature-same place n l e =
-      let e' : answer suite (signing_under key) (only_message m) ≡ done n = sym (signs-same place l) ∙ e in
+  signature_same place n l e =
+      let e' : answer suite (signing_under key) (only_message m) ≡ done n = sym (signs_same place l) ∙ e in
       let long = (signs key (only_message m) n e').0.long in
       let f = with_signed_flag m in
       let lf = flagged_length m long in
@@ -123,7 +123,7 @@ module _ (key m : Bytes) (size : length key ≡ 16) (short : length m ≤ longes
       ∙ sym (ap (λ (w : Lent). signature_field w.message) (left-done suite (signing_under key) (only_message m) n e'))
 
   finishes : InPieces key u m
-  finishes = record { signs = signs-same; signature = signature-same; verifies = verifies-same }
+  finishes = record { signs = signs_same; signature = signature_same; verifies = verifies_same }
 
 module _ (key : Bytes) (ps : List Bytes) where
   from : (s : Underway) → s ≡ under key [] → length key ≡ 16 → InPieces key (after_pieces s ps) (joined_not_refused s ps)
@@ -138,7 +138,7 @@ module _ (key : Bytes) (ps : List Bytes) where
       from (begun key) (ap (λ (w : Lent). w.underway) (left-done suite (sign_beginning key) (only_underway not_begun) n e))
       (eqb-true (length key) 16 (not-false (eqb (length key) 16) (line-of (tests suite (sign_beginning key) (only_underway not_begun)) n e 40)))
 
--- ____ with no message
+-- ---- with no message
 
 stays : (ps : List Bytes) → after_pieces not_begun ps ≡ not_begun
 stays [] = refl
@@ -148,12 +148,12 @@ without_message : (ps : List Bytes) (w : Lent) → answer suite (verify_finishin
 unfolding tests
 without_message ps w = ap (λ (s : Underway). answer suite (verify_finishing s) w) (stays ps)
 
-no-signature : (ps : List Bytes) (place : Bytes) → length place ≡ 16
+no_signature : (ps : List Bytes) (place : Bytes) → length place ≡ 16
     → answer suite (sign_finishing (after_pieces not_begun ps)) (only_signature place) ≡ refused 11
 unfolding tests
-no-signature ps place l =
+no_signature ps place l =
     ap (λ (s : Underway). answer suite (sign_finishing s) (only_signature place)) (stays ps)
     ∙ ap (λ (b : Bool). cond (not b) (refused 40) (refused 11)) (eq-eqb (length place) 16 l)
 
 pub signing-pieces : SigningPieces
-signing-pieces = record { in_pieces = in_pieces; without_message = without_message; no-signature = no-signature }
+signing-pieces = record { in_pieces = in_pieces; without_message = without_message; no_signature = no_signature }

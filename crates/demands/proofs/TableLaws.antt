@@ -21,15 +21,15 @@ not_this i s h = rw (ne_eqb s.id i h) (and_false s.used)
 not_free : (i : ℕ) (s : Session) → s.used ≡ false → is_session i s ≡ false
 not_free i s h = rw h
 
-pub is-used : (i : ℕ) (s : Session) → is_session i s ≡ true → s.used ≡ true
-is-used i s e = go s.used refl
+pub is_used : (i : ℕ) (s : Session) → is_session i s ≡ true → s.used ≡ true
+is_used i s e = go s.used refl
   where
     go : (b : Bool) → s.used ≡ b → s.used ≡ true
     go true u = u
     go false u = absurd (true≢false (sym e ∙ not_free i s u))
 
-pub is-id : (i : ℕ) (s : Session) → is_session i s ≡ true → s.id ≡ i
-is-id i s e = eqb-true s.id i (sym (rw (is-used i s e) refl) ∙ e)
+pub is_id : (i : ℕ) (s : Session) → is_session i s ≡ true → s.id ≡ i
+is_id i s e = eqb-true s.id i (sym (rw (is_used i s e) refl) ∙ e)
 
 module _ (i j : ℕ) (other-id : i ≢ j) where
   -- a change of the record of another id
@@ -41,7 +41,7 @@ module _ (i j : ℕ) (other-id : i ≢ j) where
       go : (b : Bool) → is_session j s ≡ b → record_of i (change_record f j t) ≡ record_of i t
           → record_of i (change_record f j (s ∷ t)) ≡ record_of i (s ∷ t)
       go true e below =
-          let mine : is_session i s ≡ false = not_this i s (λ q. other-id (sym q ∙ is-id j s e)) in
+          let mine : is_session i s ≡ false = not_this i s (λ q. other-id (sym q ∙ is_id j s e)) in
           rw (e, keeps s e, mine)
       go false e below = rw (e, below)
 
@@ -74,6 +74,6 @@ fill_same i new is (s ∷ t) u room = go (is_session i s) refl s.used refl (fill
     go : (b : Bool) → is_session i s ≡ b → (c : Bool) → s.used ≡ c
         → ((record_of i t).used ≡ false → has_free t ≡ true → record_of i (fill_free new t) ≡ new)
         → (record_of i (s ∷ t)).used ≡ false → has_free (s ∷ t) ≡ true → record_of i (fill_free new (s ∷ t)) ≡ new
-    go true e c w below = rw e (λ u'. absurd (true≢false (sym (is-used i s e) ∙ u')))
+    go true e c w below = rw e (λ u'. absurd (true≢false (sym (is_used i s e) ∙ u')))
     go false e true w below = let e' : eqb s.id i ≡ false = rw w at e in rw (e, w, e') below
     go false e false w below = rw (e, w, is) (λ u' r'. refl)

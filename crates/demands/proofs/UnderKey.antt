@@ -12,7 +12,7 @@ abbrev plain : Connection → Connection
 plain c = record { role = c.role; dialect = c.dialect; encryption = c.encryption; cipher = c.cipher; constrained = false }
 
 same_plain : (c d : Connection) → EncryptAlike c d → plain c ≡ plain d
-same_plain c d a = λ i. record { role = a.same-role i; dialect = a.same-dialect i; encryption = a.same-encryption i; cipher = a.same-cipher i; constrained = false }
+same_plain c d a = λ i. record { role = a.same_role i; dialect = a.same_dialect i; encryption = a.same_encryption i; cipher = a.same_cipher i; constrained = false }
 
 pub under_one_key : UnderKey
 unfolding tests effect

@@ -11,7 +11,7 @@ use Rattle.protocol.specs.Calls.{Call, derivation, folding, fold_beginning, fold
 use Rattle.protocol.specs.Calls.{verifying_under, adding, removing, stepping, sealing, opening, only_chain, chain_and_underway, left}
 use Rattle.protocol.specs.Calls.{sign_beginning, sign_piece, sign_finishing, verify_finishing}
 
--- ____ a chain, and the messages under way into it
+-- ---- a chain, and the messages under way into it
 
 -- a program keeps each hash state at a place of its own
 pub record Chain : Type 0 where
@@ -41,7 +41,7 @@ pub data ChainStep : Type 0 where
   finishing_at : ℕ → FoldKind → ChainStep
   abandoning_at : ℕ → ChainStep
 
--- ____ what a step folds in
+-- ---- what a step folds in
 
 -- "the messages of a length that 23 admits, without the setup responses whose Status is not 0xC0000016"
 abbrev pub goes_in : FoldKind → Bytes → Bool
@@ -85,7 +85,7 @@ abbrev pub hashed_with : Bytes → List Bytes → List Bytes
 hashed_with v [] = []
 hashed_with v (m ∷ ms) = (v ++ m) ∷ hashed_with v ms
 
--- ____ a list of steps
+-- ---- a list of steps
 
 module _ (P : Primitives) where
   -- a call with the chain and the state at the place k, which the one handed back takes
@@ -126,7 +126,7 @@ module _ (P : Primitives) where
   InOrder s [] = Unit
   InOrder s (x ∷ xs) = Alone s x × InOrder (chain_left s x) xs
 
--- ____ one end: "A session's list is the connection's up to the copy, then its own."
+-- ---- one end: "A session's list is the connection's up to the copy, then its own."
 
 pub record ChainSteps : Type 0 where
   -- those on the connection's chain, up to the copy
@@ -151,7 +151,7 @@ module _ (P : Primitives) (x : ChainSteps) where
   abbrev pub EndInOrder : Type 0
   EndInOrder = InOrder P (starting fresh_chain) x.connection × InOrder P (starting connection_chain) x.session
 
--- ____ the two ends
+-- ---- the two ends
 
 -- x stands in the list, at some place
 abbrev pub Among : {A : Type 0} → A → List A → Type 0
@@ -164,7 +164,7 @@ pub record Collision (sha512 : Bytes → Bytes) (strings : List Bytes) : Type 0 
   pub one-hashed : Among one strings
   pub other-hashed : Among other strings
   pub different : one ≢ other
-  pub same-hash : sha512 one ≡ sha512 other
+  pub same_hash : sha512 one ≡ sha512 other
 
 -- among the strings is one whose SHA-512 is 64 zero bytes
 pub record ZeroHash (sha512 : Bytes → Bytes) (strings : List Bytes) : Type 0 where

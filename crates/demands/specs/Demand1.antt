@@ -16,7 +16,7 @@ use Rattle.protocol.specs.Calls.{sign_beginning, sign_piece, sign_finishing, ver
 use Rattle.demands.specs.Lines.{First, None}
 use Rattle.demands.specs.Walk.{Walked, Broken}
 
--- ____ the numbers that a call tests, in their order: "40 comes first and then the lowest number wins, except inside the walk"
+-- ---- the numbers that a call tests, in their order: "40 comes first and then the lowest number wins, except inside the walk"
 
 abbrev pub numbers_of : List Test → List ℕ
 numbers_of [] = []
@@ -51,7 +51,7 @@ order (stepping i by) = []
 order (sealing c id) = 1 ∷ 2 ∷ 3 ∷ 6 ∷ 7 ∷ 8 ∷ 35 ∷ 11 ∷ 12 ∷ 13 ∷ 14 ∷ 15 ∷ 16 ∷ 17 ∷ []
 order (opening c) = 1 ∷ 2 ∷ 3 ∷ 4 ∷ 5 ∷ 29 ∷ 6 ∷ 7 ∷ 8 ∷ 35 ∷ 9 ∷ 10 ∷ 11 ∷ 12 ∷ 13 ∷ 14 ∷ 15 ∷ 16 ∷ []
 
--- ____ the answer to tests, whichever call they are of
+-- ---- the answer to tests, whichever call they are of
 
 -- n is the number of the first rule that the walk finds broken
 abbrev pub Breaks : Inner → ℕ → Type 0
@@ -79,7 +79,7 @@ pub record Answers (t : Tests) : Type 0 where
   pub refuses : (n : ℕ) → (verdict t ≡ refused n) ↔ Refuses t n
   pub passes : (n : ℕ) → (verdict t ≡ done n) ↔ Passes t n
 
--- ____ the demand
+-- ---- the demand
 
 pub record Demand1 (P : Primitives) : Type 0 where
   pub orders : (c : Call) (w : Lent) → numbers_tested (tests P c w) ≡ order c
@@ -93,6 +93,6 @@ pub record Demand1 (P : Primitives) : Type 0 where
   -- "the answer otherwise carries only the number": the place for the number of headers is as it was lent, too
   pub headers : (a : Answer) (n h : ℕ) → a ≡ refused n → carried a h ≡ h
   -- "another status leaves the value and says not folded, which is a done answer": 0 with the mark 0
-  pub not-folded : (kind : FoldKind) (m : Bytes) (w : Lent)
+  pub not_folded : (kind : FoldKind) (m : Bytes) (w : Lent)
       → (answer P (folding kind m) w ≡ done 0) ↔ (None (tests P (folding kind m) w).before × (status_allows kind m ≡ false))
-  pub not-folded-leaves : (kind : FoldKind) (m : Bytes) (w : Lent) → answer P (folding kind m) w ≡ done 0 → left P (folding kind m) w ≡ w
+  pub not_folded-leaves : (kind : FoldKind) (m : Bytes) (w : Lent) → answer P (folding kind m) w ≡ done 0 → left P (folding kind m) w ≡ w

@@ -27,7 +27,7 @@ use Rattle.protocol.specs.Suite.{suite, kdf, cmac, ciphers}
 use Rattle.demands.specs.Opening.{Carries, OpensUnderKey, OpensWithRecord}
 use Rattle.demands.specs.Verifying.{SignChecks, Verifies}
 
--- ____ keys
+-- ---- keys
 
 -- "Each key is the first 16 bytes of HMAC-SHA-256, keyed with it, over" what `derivation_input` makes of label and context; or the first 32
 abbrev pub key_from : ℕ → Bytes → Bytes → Bytes → Bytes
@@ -46,14 +46,14 @@ pub record KeysOfPapers : Type 0 where
   pub added : (a : Adding) (w : Lent) (n : ℕ) → answer suite (adding a) w ≡ done n
       → left suite (adding a) w ≡ with_table (fill_free (new_record kdf a) w.table) w
 
--- ____ the chain
+-- ---- the chain
 
 pub record ChainOfPapers : Type 0 where
   -- "Folding a message gives SHA-512 of the old value followed by the message"
   pub folded : (kind : FoldKind) (m : Bytes) (w : Lent) → answer suite (folding kind m) w ≡ done 1
       → left suite (folding kind m) w ≡ with_chain (hash sha2.sha512 (w.chain ++ m)) w
 
--- ____ the ciphers, 2 and 4 or else 1 and 3, whatever the size of the key: "11 nonce bytes", "12 nonce bytes" of the header's Nonce
+-- ---- the ciphers, 2 and 4 or else 1 and 3, whatever the size of the key: "11 nonce bytes", "12 nonce bytes" of the header's Nonce
 
 pub record CiphersOfPapers (key nonce auth text : Bytes) : Type 0 where
   pub ccm_ciphertext : (cipher : ℕ) → is_gcm cipher ≡ false → ciphers.encrypt cipher key nonce auth text ≡ ccm.encrypt (aes key) (take 11 nonce) text
@@ -62,7 +62,7 @@ pub record CiphersOfPapers (key nonce auth text : Bytes) : Type 0 where
   pub gcm_tag : (cipher : ℕ) → is_gcm cipher ≡ true
       → ciphers.tag cipher key nonce auth text ≡ gcm.tag (aes key) (take 12 nonce) auth (gcm.encrypt (aes key) (take 12 nonce) text)
 
--- ____ sealed bytes, with these ciphers
+-- ---- sealed bytes, with these ciphers
 
 pub record SealedOfPapers : Type 0 where
   -- under one given key; "The counter is then handed in and handed back"
@@ -76,7 +76,7 @@ pub record SealedOfPapers : Type 0 where
       ≡ with_table (change_record count_up id w.table)
       (with_message (sealed_under ciphers (cipher_used c) (sealing_key c.role s.keys) s.counter id (inner w.message)) w)
 
--- ____ opened
+-- ---- opened
 
 -- the record that lookup takes for the id in the message's header
 abbrev pub record_named : Lent → Session
@@ -95,10 +95,10 @@ pub record OpenedOfPapers : Type 0 where
   pub one-text : (cipher : ℕ) (key m text text' : Bytes) → Carries cipher key m text → Carries cipher key m text' → text ≡ text'
   pub text_under_key : (c : Connection) (key : Bytes) (id : ℕ) (w : Lent) (n : ℕ) (o : OpensUnderKey c key id w.message n)
       → left suite (opening_under c key id) w ≡ opened_with o.text w
-  pub text-with-table : (c : Connection) (w : Lent) (n : ℕ) (o : OpensWithRecord c w.message (record_named w) n)
+  pub text_with_table : (c : Connection) (w : Lent) (n : ℕ) (o : OpensWithRecord c w.message (record_named w) n)
       → left suite (opening c) w ≡ opened_with o.text w
 
--- ____ signed bytes, and verifying
+-- ---- signed bytes, and verifying
 
 pub record SignedOfPapers : Type 0 where
   pub aes-cmac : (key m : Bytes) → cmac key m ≡ rfc4493.cmac (aes key) m
@@ -110,7 +110,7 @@ pub record SignedOfPapers : Type 0 where
   -- and verifies exactly if every listed check holds
   pub verifies : (key : Bytes) (w : Lent) (n : ℕ) → (answer suite (verifying_under key) w ≡ done n) ↔ (Verifies key w.message × (n ≡ 0))
 
--- ____ the demand
+-- ---- the demand
 
 pub record Demand2 : Type 0 where
   pub keys : KeysOfPapers

@@ -13,7 +13,7 @@ use Rattle.protocol.specs.Calls.{Call, adding, removing, sealing, opening, Lent,
 use Rattle.demands.specs.Chains.{ChainSteps, end_messages, session_chain, EndInOrder, Among, ChainsAgree}
 use Rattle.demands.specs.Steps.{Step, made, table_left}
 
--- ____ the two ends
+-- ---- the two ends
 
 -- at each end the steps on the chains, the key material, the table before the add ("whatever else the table held") and the steps after
 -- it; for both one id and one cipher
@@ -66,7 +66,7 @@ module _ (P : Primitives) where
     pub same_key : let wide = is_wide 0x0311 e.cipher in cipher_material wide (e.material client) ≡ cipher_material wide (e.material server)
     -- an id has 64 bits
     pub id-fits : e.id < 2 ^ 64
-    pub added-with_success : (r : Role) → answer P (adding (session_added e r)) (only_table (e.table_before r)) ≡ done 0
+    pub added_with_success : (r : Role) → answer P (adding (session_added e r)) (only_table (e.table_before r)) ≡ done 0
     -- "only this id is not removed"
     pub kept : (r : Role) (s : Step) → Among s (e.steps r) → s.call ≢ removing e.id
 

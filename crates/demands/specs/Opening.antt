@@ -62,8 +62,8 @@ pub record OpensWithRecord (c : Connection) (m : Bytes) (s : Session) (n : ℕ) 
   -- not 7
   pub unconstrained : c.constrained ≡ false
   -- not 8
-  pub not-guest : s.guest ≡ false
-  pub not-anonymous : s.anonymous ≡ false
+  pub not_guest : s.guest ≡ false
+  pub not_anonymous : s.anonymous ≡ false
   -- not 35
   pub same_size : cipher_key_bytes s.wide ≡ cipher_key_bytes (uses_wide c)
   pub text : Bytes

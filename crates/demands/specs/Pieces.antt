@@ -45,7 +45,7 @@ module _ (P : Primitives) where
     -- "The result equals one fold of the joined bytes of the pieces not refused into the value the message began from, wherever the cuts fall."
     pub same_answer : (kind : FoldKind) (v : Bytes) (ps : List Bytes) → length v ≡ 64
         → answer P (fold_finishing kind) (at_finish v v ps) ≡ answer P (folding kind (message_joined v ps)) (only_chain v)
-    pub same-value : (kind : FoldKind) (v : Bytes) (ps : List Bytes) → length v ≡ 64
+    pub same_value : (kind : FoldKind) (v : Bytes) (ps : List Bytes) → length v ≡ 64
         → (left P (fold_finishing kind) (at_finish v v ps)).chain ≡ (left P (folding kind (message_joined v ps)) (only_chain v)).chain
     -- "into the value the message began from", whatever the value x is that the finish is lent
     pub from_start : (kind : FoldKind) (v x : Bytes) (ps : List Bytes) → length v ≡ 64 → length x ≡ 64 → goes_in kind (message_joined v ps) ≡ true

@@ -41,5 +41,5 @@ pub record SigningPieces : Type 0 where
       → InPieces key (after_pieces (begun key) ps) (joined_not_refused (begun key) ps)
   -- with no message every piece is 3, and a finish 11: one whose begin was refused, or that has ended
   pub without_message : (ps : List Bytes) (w : Lent) → answer suite (verify_finishing (after_pieces not_begun ps)) w ≡ refused 11
-  pub no-signature : (ps : List Bytes) (place : Bytes) → length place ≡ 16
+  pub no_signature : (ps : List Bytes) (place : Bytes) → length place ≡ 16
       → answer suite (sign_finishing (after_pieces not_begun ps)) (only_signature place) ≡ refused 11

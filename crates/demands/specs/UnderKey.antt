@@ -10,10 +10,10 @@ use Rattle.protocol.specs.Suite.{suite}
 
 -- the connections agree in all else
 pub record EncryptAlike (c d : Connection) : Type 0 where
-  pub same-role : c.role ≡ d.role
-  pub same-dialect : c.dialect ≡ d.dialect
-  pub same-encryption : c.encryption ≡ d.encryption
-  pub same-cipher : c.cipher ≡ d.cipher
+  pub same_role : c.role ≡ d.role
+  pub same_dialect : c.dialect ≡ d.dialect
+  pub same_encryption : c.encryption ≡ d.encryption
+  pub same_cipher : c.cipher ≡ d.cipher
 
 pub record DoAlike (c d : Call) : Type 0 where
   pub same_answer : (w : Lent) → answer suite c w ≡ answer suite d w

@@ -15,14 +15,14 @@ use Rattle.protocol.specs.Keys as rules
 use Rattle.protocol.specs.Keys.{session_key, cipher_material, smb_c2_s_cipher_key, smb_s2_c_cipher_key, smb2_aes_ccm, server_in, server_out, keys311, keys300}
 use Rattle.protocol.specs.Keys.{derived_keys}
 use Rattle.protocol.specs.Suite.{kdf}
-use Rattle.protocol.proofs.SuiteLaws.{kdf-is, suite_sound}
+use Rattle.protocol.proofs.SuiteLaws.{kdf_is, suite_sound}
 use Rattle.derived_keys.specs.declared.Keys.{Keys}
 use Rattle.derived_keys.specs.Reading.{stored}
 
 -- a key of 16 bytes out of the session key
 pub key_is : (r k material label context : Bytes) → k ≡ session_key material → r ≡ derive_sha256 16 k label context
     → r ≡ kdf 16 (session_key material) label context
-key_is r k material label context ek e = e ∙ ap (λ (x : Bytes). derive_sha256 16 x label context) ek ∙ sym (kdf-is 16 (session_key material) label context)
+key_is r k material label context ek e = e ∙ ap (λ (x : Bytes). derive_sha256 16 x label context) ek ∙ sym (kdf_is 16 (session_key material) label context)
 
 module _ (wide : Bool) (material label context r : Bytes) where
   abbrev cipher_key : Bytes
@@ -31,7 +31,7 @@ module _ (wide : Bool) (material label context r : Bytes) where
   pub wide_key : wide ≡ true → r ≡ derive_sha256 32 material label context → r ≡ zero_padded 32 cipher_key
   wide_key w e =
       e
-      ∙ sym (kdf-is 32 material label context)
+      ∙ sym (kdf_is 32 material label context)
       ∙ sym (zero_padded_exact 32 _ (suite_sound.key_length true material label context))
       ∙ rw w
 

@@ -12,7 +12,7 @@ use lib.ListN.{length, take, length-append}
 use lib.Seq.{take_all}
 use Rattle.octets.proofs.BoolLaws.{and_true}
 use Rattle.sha512.specs.Code.{finished}
-use Rattle.sha512.proofs.AnyState.{finished-is}
+use Rattle.sha512.proofs.AnyState.{finished_is}
 use Rattle.protocol.specs.Bytes.{Bytes}
 use Rattle.protocol.specs.Answer.{Answer, done, refused, answer_number, carried, when_done, judge}
 use Rattle.protocol.specs.Preauth.{FoldKind, negotiate_message, setup_request, setup_response, admitted, more_processing, status_allows}
@@ -21,8 +21,8 @@ use Rattle.protocol.specs.Refusals.{fold_length, bad_length}
 use Rattle.protocol.specs.Calls.{fold_finishing, chain_and_underway, fold_tests, tests, effect}
 use Rattle.protocol.specs.Contract.{Makes}
 use Rattle.protocol.specs.Suite.{suite, sha512}
-use Rattle.protocol.proofs.SuiteLaws.{sha512-is}
-use Rattle.preauth.proofs.FoldLaws.{refused_40, refused_23, left_out, folded-in, mark-carried, limits}
+use Rattle.protocol.proofs.SuiteLaws.{sha512_is}
+use Rattle.preauth.proofs.FoldLaws.{refused_40, refused_23, left_out, folded_in, mark-carried, limits}
 use Rattle.fold_pieces.specs.declared.FoldState.{FoldState}
 use Rattle.fold_pieces.specs.declared.FoldStep.{FoldStep}
 use Rattle.fold_pieces.specs.State.{StandsFor, ends}
@@ -30,7 +30,7 @@ use Rattle.fold_pieces.specs.Clauses.{end_lines, end_answer, ended_with, end_ste
 use Rattle.fold_pieces.proofs.HeadLaws.{status_kept}
 use Rattle.fold_pieces.proofs.StateLaws.{ends_is}
 
--- ____ by the way out that the code takes
+-- ---- by the way out that the code takes
 
 module _ (s : FoldState) (allowed : Bool) (v : Bytes) where
   pub closed_40 : length v ≢ 64 → (refused 40 ≡ end_answer s allowed v) × (v ≡ end_value s allowed v)
@@ -55,29 +55,29 @@ module _ (s : FoldState) (allowed : Bool) (v : Bytes) where
   unfolding end_step
   ended_by k f = record { hands_back = f ∙ ap ended_with k.0; leaves = k.1 }
 
--- ____ the call
+-- ---- the call
 
-finish-tests : (kind : FoldKind) (v : Bytes) (u : Underway) → tests suite (fold_finishing kind) (chain_and_underway v u) ≡ fold_tests kind v (message_of u)
+finish_tests : (kind : FoldKind) (v : Bytes) (u : Underway) → tests suite (fold_finishing kind) (chain_and_underway v u) ≡ fold_tests kind v (message_of u)
 unfolding tests
-finish-tests kind v u = refl
+finish_tests kind v u = refl
 
-finish-leaves : (kind : FoldKind) (v : Bytes) (u : Underway) → status_allows kind (message_of u) ≡ false
+finish_leaves : (kind : FoldKind) (v : Bytes) (u : Underway) → status_allows kind (message_of u) ≡ false
     → chain_and_underway v u ≡ effect suite (fold_finishing kind) (chain_and_underway v u)
 unfolding effect finished_value
-finish-leaves kind v u b = rw b
+finish_leaves kind v u b = rw b
 
 finish_puts : (kind : FoldKind) (v v' : Bytes) (u : Underway) → status_allows kind (message_of u) ≡ true → v' ≡ sha512 (u.start ++ message_of u)
     → chain_and_underway v' u ≡ effect suite (fold_finishing kind) (chain_and_underway v u)
 unfolding effect finished_value
 finish_puts kind v v' u b e = rw (b, e)
 
--- ____ a state that stands for a message
+-- ---- a state that stands for a message
 
 module _ (s : FoldState) (u : Underway) (k : StandsFor s u) where
   -- of one that 23 admits
   module _ (fits : admitted (message_of u) ≡ true) where
     begun : u.begun ≡ true
-    begun = sym k.same-begun ∙ (and_true _ _ (ends_is s u k ∙ fits)).0
+    begun = sym k.same_begun ∙ (and_true _ _ (ends_is s u k ∙ fits)).0
 
     joined_is : message_of u ≡ u.joined
     joined_is = ap (λ (b : Bool). cond b u.joined []) begun
@@ -95,14 +95,14 @@ module _ (s : FoldState) (u : Underway) (k : StandsFor s u) where
         ap more_processing h ∙ ap (λ (y : ℕ). eqb y 0xC0000016) (status_kept u.joined) ∙ ap more_processing (sym joined_is)
 
     -- the hash has taken in the value begun from, and what is joined
-    value-is : finished s.hash ≡ sha512 (u.start ++ message_of u)
-    value-is =
+    value_is : finished s.hash ≡ sha512 (u.start ++ message_of u)
+    value_is =
         let x = k.hashes begun in
         let most = (limits (message_of u) fits).1 in
         let n : length u.joined ≡ length (message_of u) = ap length (sym joined_is) in
         let a : length (u.start ++ u.joined) ≡ length u.start + length u.joined = length-append u.start u.joined in
-        finished-is s.hash (u.start ++ u.joined) x.hashed (omega (arith, x.started, most, n, a))
-        ∙ sym (sha512-is (u.start ++ u.joined))
+        finished_is s.hash (u.start ++ u.joined) x.hashed (omega (arith, x.started, most, n, a))
+        ∙ sym (sha512_is (u.start ++ u.joined))
         ∙ ap (λ (m : Bytes). sha512 (u.start ++ m)) (sym joined_is)
 
   module _ (kind : FoldKind) (v : Bytes) where
@@ -117,24 +117,24 @@ module _ (s : FoldState) (u : Underway) (k : StandsFor s u) where
         → Makes (fold_finishing kind) (chain_and_underway v u) (answer_if a b c)
         (chain_and_underway (when_done (answer_if a b c) (λ n. cond c (finished s.hash) v) v) u)
     makes false b c ea eb ec =
-        refused_40 (fold_finishing kind) (chain_and_underway v u) kind (message_of u) (finish-tests kind v u) (eqb-false (length v) 64 ea)
+        refused_40 (fold_finishing kind) (chain_and_underway v u) kind (message_of u) (finish_tests kind v u) (eqb-false (length v) 64 ea)
     makes true false c ea eb ec =
-        refused_23 (fold_finishing kind) (chain_and_underway v u) kind (message_of u) (finish-tests kind v u) (eqb-true (length v) 64 ea)
+        refused_23 (fold_finishing kind) (chain_and_underway v u) kind (message_of u) (finish_tests kind v u) (eqb-true (length v) 64 ea)
         (sym (ends_is s u k) ∙ eb)
     makes true true false ea eb ec =
         let fits = sym (ends_is s u k) ∙ eb in
         let out = sym (status_is fits kind) ∙ ec in
-        left_out (fold_finishing kind) (chain_and_underway v u) kind (message_of u) (finish-tests kind v u) (eqb-true (length v) 64 ea) fits out
-        (finish-leaves kind v u out)
+        left_out (fold_finishing kind) (chain_and_underway v u) kind (message_of u) (finish_tests kind v u) (eqb-true (length v) 64 ea) fits out
+        (finish_leaves kind v u out)
     makes true true true ea eb ec =
         let fits = sym (ends_is s u k) ∙ eb in
         let in-it = sym (status_is fits kind) ∙ ec in
-        folded-in (fold_finishing kind) (chain_and_underway v u) kind (message_of u) (finish-tests kind v u) (eqb-true (length v) 64 ea) fits
-        (chain_and_underway (finished s.hash) u) in-it (finish_puts kind v (finished s.hash) u in-it (value-is fits))
+        folded_in (fold_finishing kind) (chain_and_underway v u) kind (message_of u) (finish_tests kind v u) (eqb-true (length v) 64 ea) fits
+        (chain_and_underway (finished s.hash) u) in-it (finish_puts kind v (finished s.hash) u in-it (value_is fits))
 
-    pub finish-is : Finishes kind u v (end_step s allowed v) (end_value s allowed v)
+    pub finish_is : Finishes kind u v (end_step s allowed v) (end_value s allowed v)
     unfolding end_step end_value
-    finish-is =
+    finish_is =
         let made = makes (eqb (length v) 64) (ends s) allowed refl refl refl in
         record {
           number = ap answer_number made.answers;

@@ -52,9 +52,9 @@ module _ (head m p : List ℕ) (j : ℕ) (room : length head ≡ 12) (counted : 
       ∙ ap (λ (k : ℕ). take k (m ++ p)) whole
 
   -- what of the piece is among them is copied behind those that are there
-  pub kept-with : take (j + length p) (head_with head j p) ≡ take 12 (m ++ p)
+  pub kept_with : take (j + length p) (head_with head j p) ≡ take 12 (m ++ p)
   unfolding head_with
-  kept-with = go (leb j 12) (leb (length p) (12 - j)) refl refl
+  kept_with = go (leb j 12) (leb (length p) (12 - j)) refl refl
     where
       go : (a b : Bool) → leb j 12 ≡ a → leb (length p) (12 - j) ≡ b → take (j + length p) (front_at head p (min j 12)) ≡ take 12 (m ++ p)
       go true true ha hb =
@@ -94,10 +94,10 @@ fitting k p = go (leb (length p) k) refl
         let n : min (length p) k ≡ k = omega (arith, h) in
         ap (λ (i : ℕ). take i p) n
 
-pub head-is : (head p : List ℕ) (j : ℕ) {after : List ℕ} {at n : ℕ} → at ≡ min j 12 → n ≡ min (length p) (12 - at)
+pub head_is : (head p : List ℕ) (j : ℕ) {after : List ℕ} {at n : ℕ} → at ≡ min j 12 → n ≡ min (length p) (12 - at)
     → after ≡ paste head at (take n p) (length (take n p)) → after ≡ head_with head j p
 unfolding head_with
-head-is head p j {after} {at} {n} ea en e =
+head_is head p j {after} {at} {n} ea en e =
     e
     ∙ ap (λ (x : List ℕ). paste head at x (length x)) (ap (λ (i : ℕ). take i p) en ∙ fitting (12 - at) p)
     ∙ ap (front_at head p) ea

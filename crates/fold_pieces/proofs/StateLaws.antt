@@ -10,8 +10,8 @@ use lib.Dec.{eqb, leb}
 use lib.ListN.{length, take, replicate, length-append}
 use Rattle.sha512.specs.declared.Sha512.{Sha512}
 use Rattle.sha512.specs.Code.{nothing_taken, updated}
-use Rattle.sha512.proofs.Beginning.{nothing-holds}
-use Rattle.sha512.proofs.AnyState.{updated-holds}
+use Rattle.sha512.proofs.Beginning.{nothing_holds}
+use Rattle.sha512.proofs.AnyState.{updated_holds}
 use Rattle.protocol.specs.Bytes.{Bytes}
 use Rattle.protocol.specs.Answer.{done, refused, answer_number, when_done}
 use Rattle.protocol.specs.Connection.{longest_message}
@@ -24,9 +24,9 @@ use Rattle.fold_pieces.specs.declared.FoldState.{FoldState}
 use Rattle.fold_pieces.specs.declared.FoldStep.{FoldStep}
 use Rattle.fold_pieces.specs.State.{Hashes, StandsFor, no_message, begun_on, joined_by, head_with, step_with, takes, ends}
 use Rattle.fold_pieces.specs.Clauses.{begin_step, piece_step, HandsOn}
-use Rattle.fold_pieces.proofs.HeadLaws.{kept-with, head-length}
+use Rattle.fold_pieces.proofs.HeadLaws.{kept_with, head-length}
 
--- ____ by the way out that the code takes
+-- ---- by the way out that the code takes
 
 module _ (v : Bytes) where
   abbrev begun_if : Bool → FoldStep
@@ -59,21 +59,21 @@ module _ (s : FoldState) (p : Bytes) where
   unfolding piece_step joined_by
   piece_taken e eh ed er = er ∙ ap₂ (λ (x : Sha512) (d : List ℕ). step_with (after x d) 0) eh ed ∙ sym (ap taken_if e)
 
--- ____ what a begin hands back stands for a message, or for none
+-- ---- what a begin hands back stands for a message, or for none
 
 -- what the hash holds does not count
 pub without_message : StandsFor no_message not_begun
 unfolding no_message
-without_message = record { same-begun = refl; hashes = λ b. absurd (true≢false (sym b)) }
+without_message = record { same_begun = refl; hashes = λ b. absurd (true≢false (sym b)) }
 
 module _ (v : Bytes) where
   begun-stands : length v ≡ 64 → StandsFor (begun_on v) (begun_from v)
   unfolding begun_on
   begun-stands l =
       record {
-        same-begun = refl;
+        same_begun = refl;
         hashes = λ b.
-            let taken = updated-holds nothing_taken [] v nothing-holds in
+            let taken = updated_holds nothing_taken [] v nothing_holds in
             record { hashed = rw (append-nil v) taken; started = l; counted = refl; room = refl; headed = refl };
       }
 
@@ -100,19 +100,19 @@ module _ (v : Bytes) where
           }
       go false e = record { number = ap number_if (sym e); mark = refl; stands = rw (← ap underway_if (sym e)) without_message }
 
--- ____ a state that stands for a message tests what the call tests
+-- ---- a state that stands for a message tests what the call tests
 
 module _ (s : FoldState) (u : Underway) (h : StandsFor s u) where
   -- by whether one is under way
   test_is : (f : ℕ → Bool) → (flag s.underway && f s.joined) ≡ (u.begun && f (length u.joined))
-  test_is f = go (flag s.underway) u.begun h.same-begun h.hashes
+  test_is f = go (flag s.underway) u.begun h.same_begun h.hashes
     where
       go : (a b : Bool) → a ≡ b → (b ≡ true → Hashes s u) → (a && f s.joined) ≡ (b && f (length u.joined))
       go a true e k = rw e (ap f (k refl).counted)
       go a false e k = rw e
 
-  pub takes-is : (p : Bytes) → takes s (length p) ≡ piece_fits u p
-  takes-is p = test_is (λ n. leb (n + length p) longest_message)
+  pub takes_is : (p : Bytes) → takes s (length p) ≡ piece_fits u p
+  takes_is p = test_is (λ n. leb (n + length p) longest_message)
 
   pub ends_is : ends s ≡ admitted (message_of u)
   ends_is = test_is admits_length ∙ go u.begun
@@ -121,22 +121,22 @@ module _ (s : FoldState) (u : Underway) (h : StandsFor s u) where
       go true = refl
       go false = refl
 
-  -- ____ and after a piece it stands for the message with it
+  -- ---- and after a piece it stands for the message with it
 
   module _ (p : Bytes) where
     joined-stands : StandsFor (joined_by s p) (with_piece p u)
     unfolding joined_by with_piece
-    joined-stands = record { same-begun = h.same-begun; hashes = hashes }
+    joined-stands = record { same_begun = h.same_begun; hashes = hashes }
       where
         hashes : u.begun ≡ true → Hashes (joined_by s p) (with_piece p u)
         hashes t =
             let k = h.hashes t in
             record {
-              hashed = rw (← append_assoc u.start u.joined p) (updated-holds s.hash (u.start ++ u.joined) p k.hashed);
+              hashed = rw (← append_assoc u.start u.joined p) (updated_holds s.hash (u.start ++ u.joined) p k.hashed);
               started = k.started;
               counted = ap (λ (n : ℕ). n + length p) k.counted ∙ sym (length-append u.joined p);
               room = head-length s.head p s.joined k.room;
-              headed = kept-with s.head u.joined p s.joined k.room k.counted k.headed;
+              headed = kept_with s.head u.joined p s.joined k.room k.counted k.headed;
             }
 
     -- by whether it fits
@@ -153,8 +153,8 @@ module _ (s : FoldState) (u : Underway) (h : StandsFor s u) where
       where
         go : (b : Bool) → takes s (length p) ≡ b → HandsOn (fold_piece p) u (taken_if s p b)
         go true e =
-            let b = sym e ∙ takes-is p in
+            let b = sym e ∙ takes_is p in
             record { number = ap piece_number_if b; mark = refl; stands = rw (← ap after_if b) joined-stands }
         go false e =
-            let b = sym e ∙ takes-is p in
+            let b = sym e ∙ takes_is p in
             record { number = ap piece_number_if b; mark = refl; stands = rw (← ap after_if b) h }

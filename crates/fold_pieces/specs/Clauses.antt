@@ -15,7 +15,7 @@ use Rattle.fold_pieces.specs.declared.FoldState.{FoldState}
 use Rattle.fold_pieces.specs.declared.FoldStep.{FoldStep}
 use Rattle.fold_pieces.specs.State.{StandsFor, no_message, begun_on, joined_by, step_with, takes, ends}
 
--- ____ any state
+-- ---- any state
 
 -- what a begin on the value v hands back
 unfoldable pub begin_step : Bytes → FoldStep
@@ -47,7 +47,7 @@ pub record Ends (s : FoldState) (allowed : Bool) (v : Bytes) (r : FoldStep) (v' 
   pub hands_back : r ≡ end_step s allowed v
   pub leaves : v' ≡ end_value s allowed v
 
--- ____ a state that stands for a message
+-- ---- a state that stands for a message
 
 -- the call c answers, and hands the state on; it has folded nothing
 pub record HandsOn (c : Call) (u : Underway) (r : FoldStep) : Type 0 where

@@ -11,7 +11,7 @@ use Rattle.connection.specs.Reading.{flag}
 use Rattle.fold_pieces.specs.declared.FoldState.{FoldState}
 use Rattle.fold_pieces.specs.declared.FoldStep.{FoldStep}
 
--- ____ any state
+-- ---- any state
 
 -- whether a piece of n bytes is taken, and whether a finish is not 23
 abbrev pub takes : FoldState → ℕ → Bool
@@ -47,7 +47,7 @@ joined_by s p =
 abbrev pub step_with : FoldState → ℕ → FoldStep
 step_with s n = record { state = s; number = n; folded = 0 }
 
--- ____ the states that calls make
+-- ---- the states that calls make
 
 -- the hash has taken in the value begun from and the joined bytes, of which the first twelve are kept
 pub record Hashes (s : FoldState) (u : Underway) : Type 0 where
@@ -58,5 +58,5 @@ pub record Hashes (s : FoldState) (u : Underway) : Type 0 where
   pub headed : take s.joined s.head ≡ take 12 u.joined
 
 pub record StandsFor (s : FoldState) (u : Underway) : Type 0 where
-  pub same-begun : flag s.underway ≡ u.begun
+  pub same_begun : flag s.underway ≡ u.begun
   pub hashes : u.begun ≡ true → Hashes s u

@@ -47,7 +47,7 @@ product-times_x (suc k) x v =
     ap₂ bit_xor (sym (times_x-bit (x / 2 ^ k % 2) v (omega arith))) (product-times_x k x (times_x v))
     ∙ sym (times_x-xor (x / 2 ^ k % 2 * v) (product k x (times_x v)))
 
--- ____ k steps
+-- ---- k steps
 
 pub power_xor : (k a b : ℕ) → times_power k (bit_xor a b) ≡ bit_xor (times_power k a) (times_power k b)
 unfolding times_power
@@ -75,7 +75,7 @@ unfolding times_power
 product_power zero k x v = refl
 product_power (suc j) k x v = product_power j k x (times_x v) ∙ ap (times_power j) (product-times_x k x v)
 
--- ____ a product in two
+-- ---- a product in two
 
 -- the j bits above k others, and those
 cut : (j k x v : ℕ) → product (j + k) x v ≡ bit_xor (product j (x / 2 ^ k) v) (product k x (times_power j v))
@@ -113,7 +113,7 @@ product-words hi lo v h =
     ap₂ (λ (n m : ℕ). bit_xor (product 64 n v) (times_power 64 m)) (sym (high hi 64 h)) (product_low 64 64 hi lo v h (le_refl 64))
     ∙ sym (product_cut 64 64 x v)
 
--- ____ four bits
+-- ---- four bits
 
 product-none : (k v : ℕ) → product k 0 v ≡ 0
 unfolding product

@@ -8,7 +8,7 @@ use Rattle.ghash_field.specs.Field.{product, mul}
 use Rattle.ghash_field.specs.Elements.{times_power, four_bits}
 use Rattle.ghash_field.proofs.FieldLaws.{power_xor, power_add, power_turned, power_shifted, product-more, product-words}
 
--- ____ the next four bits of a word
+-- ---- the next four bits of a word
 
 -- the 4 k highest bits of x
 abbrev pub first : ℕ → ℕ → ℕ
@@ -45,7 +45,7 @@ rest_turn k x p e =
 pub rest_all : (x : ℕ) → x < 2 ^ 64 → x ≡ rest 0 x
 rest_all x h = omega arith
 
--- ____ the sum
+-- ---- the sum
 
 -- w is the sum for the 4 k highest bits of hi and lo: 64 + 4 k steps make it their product with v
 abbrev pub Summed : ℕ → ℕ → ℕ → ℕ → ℕ → Type 0
@@ -77,10 +77,10 @@ pub summed_turn : (k hi lo v w p q s r : ℕ) → k < 16
     → r ≡ s * 16
     → Summed k hi lo v w
     → Summed (k + 1) hi lo v r
-summed_turn k hi lo v w p q s r h ep eq es er before-it =
+summed_turn k hi lo v w p q s r h ep eq es er before_it =
     ap (λ (n : ℕ). times_power 64 (times_power (4 * (k + 1)) n)) (er ∙ ap (λ (n : ℕ). n * 16) es)
     ∙ later k w p q
-    ∙ ap (λ (n : ℕ). bit_xor n (bit_xor (times_power (4 * k) p) (times_power 64 (times_power (4 * k) q)))) before-it
+    ∙ ap (λ (n : ℕ). bit_xor n (bit_xor (times_power (4 * k) p) (times_power 64 (times_power (4 * k) q)))) before_it
     ∙ xor_swap (part hi) (times_power 64 (part lo)) (times_power (4 * k) p) (times_power 64 (times_power (4 * k) q))
     ∙ ap₂ bit_xor (more hi p ep) (sym (power_xor 64 (part lo) (times_power (4 * k) q)) ∙ ap (times_power 64) (more lo q eq))
   where
@@ -103,7 +103,7 @@ summed_all hi lo v w r h s e =
     ∙ ap₂ (λ (n m : ℕ). bit_xor (product 64 n v) (times_power 64 (product 64 m v))) (div-one hi) (div-one lo)
     ∙ product-words hi lo v h
 
--- ____ bounds
+-- ---- bounds
 
 pub next_fits : (p : ℕ) → p < 2 ^ 64 → p / 2 ^ 60 < 16
 next_fits p h = omega arith

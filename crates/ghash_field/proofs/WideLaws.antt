@@ -53,7 +53,7 @@ carry_fits b c h = omega arith
 pub highest_grows : (a b : ℕ) → b < 2 ^ 64 → a * 16 + b / 2 ^ 60 < (a + 1) * 16
 highest_grows a b h = omega arith
 
--- ____ the 64 bits to the right
+-- ---- the 64 bits to the right
 
 abbrev fold_high : ℕ → ℕ
 fold_high d = bit_xor (bit_xor (bit_xor d (d / 2 ^ 1)) (d / 2 ^ 2)) (d / 2 ^ 7)

@@ -15,8 +15,8 @@ use Rattle.octets.proofs.Paste.{paste_turn, paste_all}
 use Rattle.octets.proofs.XorWith.{length-xor, get_or-xor_with}
 
 -- zeros, of which the first were replaced by s
-pub padded-is : (n : ℕ) (s : List ℕ) → length s ≤ n → paste (replicate n 0) 0 s (length s) ≡ zero_padded n s
-padded-is n s h =
+pub padded_is : (n : ℕ) (s : List ℕ) → length s ≤ n → paste (replicate n 0) 0 s (length s) ≡ zero_padded n s
+padded_is n s h =
     ap (λ (k : ℕ). take (length s) s ++ drop k (replicate n 0)) (zero-add (length s)) ∙ zeros_replaced n s (length s) (omega arith)
 
 module _ (k : List ℕ) (n x : ℕ) (e : length k ≡ n) where

@@ -22,9 +22,9 @@ use Rattle.protocol.proofs.SuiteLaws.{suite_sound}
 use Rattle.protocol.proofs.Judging.{line, judge-done}
 use Rattle.lab_rules.specs.Steps.{State, receiving, call_of, lent_to, left_by, step_payload}
 
-there-is : (o : Option Bytes) → is_some o ≡ true → o ≡ some (get_or o [])
-there-is none e = absurd (let z : ◌≡◌ {A = ℕ} 0 1 = cc in omega arith)
-there-is (some p) e = refl
+there_is : (o : Option Bytes) → is_some o ≡ true → o ≡ some (get_or o [])
+there_is none e = absurd (let z : ◌≡◌ {A = ℕ} 0 1 = cc in omega arith)
+there_is (some p) e = refl
 
 module _ (c : Connection) (m : Bytes) (t : List Session) where
   abbrev s : Session
@@ -60,7 +60,7 @@ module _ (c : Connection) (m : Bytes) (t : List Session) where
       by (done n) e =
           let ts : Tests = open_tests suite c m s in
           let h = (judge-done ts.before (judge_after (walk_over ts.walked) ts.later) n e).0 in
-          opened-length (leb-false (length m) 52 (line ts.before h 2)) (there-is text (not-false (is_some text) (line ts.before h 9)))
+          opened-length (leb-false (length m) 52 (line ts.before h 2)) (there_is text (not-false (is_some text) (line ts.before h 9)))
 
 pub payload-length : (k : ℕ) (d : Bool) (m : Bytes) (s : State) → length (step_payload k d m s) ≡ length m
 unfolding step_payload call_of lent_to

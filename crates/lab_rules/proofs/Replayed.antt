@@ -39,11 +39,11 @@ same_reading e f g p b =
     (cond (readable e s) (found (kind_in (head_in s)) (from_server_in (head_in s)) (p + 4) (length_in e (head_in s)) (p + size_in e s)) unreadable))
     b.size b.rest
 
--- ____ a record
+-- ---- a record
 
 module _ (e : Edition) (f g : Bytes) (p k : ℕ) (d : Bool) (q n next : ℕ) (w : Was e f p k q n next) (b : Behind f g p) where
-  same-payload : bytes_at q n g ≡ bytes_at q n f
-  same-payload = let a = w.from in ap (take n) (further f g p q (omega arith) b.rest)
+  same_payload : bytes_at q n g ≡ bytes_at q n f
+  same_payload = let a = w.from in ap (take n) (further f g p q (omega arith) b.rest)
 
   module _ (x : Bytes) (same : length x ≡ length (bytes_at q n g)) where
     front_length : length (take q g ++ x) ≡ next
@@ -90,28 +90,28 @@ turn_same n e f g p s i b ih (found k d q m next) t =
     ap (line_then (outcome r s g p) i) (ih (state_after r s g) (file_after r s g) next (after-behind e f g p k d q m next w b s))
     ∙ ap (λ (x : Bytes).
     line_then (cond (ltb held m) long (answered (step_number k d x s))) i (lines_from n e (cond (ltb held m) s (step_state k d x s)) f next (i + 1)))
-    (same-payload e f g p k d q m next w b)
+    (same_payload e f g p k d q m next w b)
 turn_same n e f g p s i b ih end t = refl
 turn_same n e f g p s i b ih unreadable t = refl
 
--- ____ from place to place
+-- ---- from place to place
 
-same-turns : (n : ℕ) (e : Edition) (s : State) (f g : Bytes) (p i : ℕ) → Behind f g p → turns_from n e s g p i ≡ lines_from n e s f p i
+same_turns : (n : ℕ) (e : Edition) (s : State) (f g : Bytes) (p i : ℕ) → Behind f g p → turns_from n e s g p i ≡ lines_from n e s f p i
 unfolding turns_from lines_from
-same-turns zero e s f g p i b = refl
-same-turns (suc n) e s f g p i b =
+same_turns zero e s f g p i b = refl
+same_turns (suc n) e s f g p i b =
     ap (λ (r : Reading). line_then (outcome r s g p) i (turns_from n e (state_after r s g) (file_after r s g) (place_after r p) (i + 1)))
     (same_reading e f g p b)
-    ∙ turn_same n e f g p s i b (λ s' g' q b'. same-turns n e s' f g' q (i + 1) b') (read_at e f p) refl
+    ∙ turn_same n e f g p s i b (λ s' g' q b'. same_turns n e s' f g' q (i + 1) b') (read_at e f p) refl
 
 same_lines : (f : Bytes) (e d c n : ℕ) → read_file_head f ≡ file_head e d c → length f ≤ 4 + n
     → turns_from n (edition_of e) (fresh_state d c) f 4 0 ≡ lines_of f
 unfolding lines_of
 same_lines f e d c n t h =
-    same-turns n (edition_of e) (fresh_state d c) f f 4 0 (record { size = refl; rest = refl })
+    same_turns n (edition_of e) (fresh_state d c) f f 4 0 (record { size = refl; rest = refl })
     ∙ enough n (length f) (edition_of e) (fresh_state d c) f 4 0 h (omega arith)
     ∙ ap (λ (x : FileReading). lines_under x f) (sym t)
 
 pub replayed : Replayed
 unfolding lines_of
-replayed = record { same_lines = same_lines; no-head = λ f t. ap (λ (x : FileReading). lines_under x f) t }
+replayed = record { same_lines = same_lines; no_head = λ f t. ap (λ (x : FileReading). lines_under x f) t }

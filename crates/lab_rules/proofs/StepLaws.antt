@@ -28,12 +28,12 @@ module _ (k : ℕ) (d : Bool) (m m' : Bytes) (s : State) (n : ℕ) (t : State) w
   step_0 q e em = record { answers = rw (eq-eqb k 0 q) e.0; leaves = rw (eq-eqb k 0 q) e.1; bytes = rw (ne_eqb k 2 (λ z. omega arith)) em }
 
   module _ (n0 : k ≡ 0 → ⊥) where
-    pub step-1 : k ≡ 1
+    pub step_1 : k ≡ 1
         → (n ≡ number (folding (setup_kind d) m) (only_chain s.session))
         × (t ≡ with_session (after (folding (setup_kind d) m) (only_chain s.session)).chain s)
         → m' ≡ m → Steps k d m m' s n t
     unfolding call_of lent_to step_state step_payload
-    step-1 q e em =
+    step_1 q e em =
         record {
           answers = rw (ne_eqb k 0 n0, eq-eqb k 1 q) e.0;
           leaves = rw (ne_eqb k 0 n0, eq-eqb k 1 q) e.1;
@@ -53,12 +53,12 @@ module _ (k : ℕ) (d : Bool) (m m' : Bytes) (s : State) (n : ℕ) (t : State) w
             bytes = rw (ne_eqb k 0 n0, ne_eqb k 1 n1, eq-eqb k 2 q) e.1;
           }
 
-      pub step-3 : (k ≡ 2 → ⊥)
+      pub step_3 : (k ≡ 2 → ⊥)
           → (n ≡ number (adding (lab_session m s)) (only_table s.table))
           × (t ≡ joined (after (adding (lab_session m s)) (only_table s.table)).table s)
           → m' ≡ m → Steps k d m m' s n t
       unfolding call_of lent_to step_state step_payload
-      step-3 n2 e em =
+      step_3 n2 e em =
           record {
             answers = rw (ne_eqb k 0 n0, ne_eqb k 1 n1, ne_eqb k 2 n2) e.0;
             leaves = rw (ne_eqb k 0 n0, ne_eqb k 1 n1, ne_eqb k 2 n2) e.1;

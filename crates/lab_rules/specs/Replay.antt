@@ -10,7 +10,7 @@ use Rattle.lab_rules.specs.Steps.{State, fresh_state, step_number, step_state, s
 abbrev pub held : ℕ
 held = 65536
 
--- ____ one record
+-- ---- one record
 
 -- what comes out of it: "its answer number", ""long" for the number", the place where the replay stops, or nothing at the end
 pub data Outcome : Type 0 where
@@ -43,7 +43,7 @@ place_after (found k d q n next) p = next
 place_after end p = p
 place_after unreadable p = p
 
--- ____ the lines of a whole file
+-- ---- the lines of a whole file
 
 pub data Line : Type 0 where
   -- "its index from 0, a space, its answer number"

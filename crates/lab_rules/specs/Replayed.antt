@@ -18,4 +18,4 @@ pub record Replayed : Type 0 where
   pub same_lines : (f : Bytes) (e d c n : ℕ) → read_file_head f ≡ file_head e d c → length f ≤ 4 + n
       → turns_from n (edition_of e) (fresh_state d c) f 4 0 ≡ lines_of f
   -- under a bad file head no call is made
-  pub no-head : (f : Bytes) → read_file_head f ≡ bad_file_head → lines_of f ≡ stop 0 ∷ []
+  pub no_head : (f : Bytes) → read_file_head f ≡ bad_file_head → lines_of f ≡ stop 0 ∷ []

@@ -22,7 +22,7 @@ pub record State : Type 0 where
 abbrev pub fresh_state : ℕ → ℕ → State
 fresh_state d c = record { dialect = d; cipher = c; connection = fresh_chain; session = fresh_chain; table = replicate 16 free_record }
 
--- ____ the call that a record makes
+-- ---- the call that a record makes
 
 -- "0 folds on the connection, 1 on the session chain": a setup response is from the server
 abbrev pub setup_kind : Bool → FoldKind
@@ -66,7 +66,7 @@ lent_to kind m s =
     (cond (eqb kind 2) (message_and_table m s.table)
     (only_table s.table)))
 
--- ____ what it answers, and what is there afterwards
+-- ---- what it answers, and what is there afterwards
 
 abbrev pub step_number : ℕ → Bool → Bytes → State → ℕ
 step_number kind d m s = answer_number (answer suite (call_of kind d m s) (lent_to kind m s))

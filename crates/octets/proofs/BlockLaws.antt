@@ -56,7 +56,7 @@ block_turn at len m k l em =
     let n = block-next at len m k l em in
     (omega arith, omega arith)
 
--- ____ blocks of joined and of padded strings
+-- ---- blocks of joined and of padded strings
 
 zero_padded-take : (n : ℕ) (xs ys : List ℕ) → n ≤ length xs → zero_padded n (xs ++ ys) ≡ zero_padded n xs
 unfolding zero_padded
@@ -100,7 +100,7 @@ block-padded xs n k l =
     ∙ ap (zero_padded 16) (drop-zero_padded (16 * k) (16 * n - 16 * k) xs)
     ∙ zero_padded_prefix 16 (16 * n - 16 * k) (drop (16 * k) xs) (omega arith)
 
--- ____ chains over blocks
+-- ---- chains over blocks
 
 module _ {A : Type 0} (f : A → List ℕ → A) where
   -- a turn of a loop: the block at `at`, and m bytes on
@@ -114,18 +114,18 @@ module _ {A : Type 0} (f : A → List ℕ → A) where
       ∙ ap (over_blocks f y s) (sym (block-next at (length s) m k l em ∙ add-one (block_count at)))
 
   -- only the first n blocks count
-  pub over-same : (y : A) (xs ys : List ℕ) (n : ℕ) → ((k : ℕ) → k < n → block xs k ≡ block ys k) → over_blocks f y xs n ≡ over_blocks f y ys n
+  pub over_same : (y : A) (xs ys : List ℕ) (n : ℕ) → ((k : ℕ) → k < n → block xs k ≡ block ys k) → over_blocks f y xs n ≡ over_blocks f y ys n
   unfolding over_blocks
-  over-same y xs ys zero h = refl
-  over-same y xs ys (suc n) h = ap₂ f (over-same y xs ys n (λ k l. h k (omega arith))) (h n (omega arith))
+  over_same y xs ys zero h = refl
+  over_same y xs ys (suc n) h = ap₂ f (over_same y xs ys n (λ k l. h k (omega arith))) (h n (omega arith))
 
   -- whole blocks a, then b
   pub over-append : (y : A) (a b : List ℕ) (n k : ℕ) → length a ≡ 16 * n → over_blocks f y (a ++ b) (n + k) ≡ over_blocks f (over_blocks f y a n) b k
   unfolding over_blocks
-  over-append y a b n zero e = ap (over_blocks f y (a ++ b)) (add-zero n) ∙ over-same y (a ++ b) a n (λ k l. block-before a b n k e l)
+  over-append y a b n zero e = ap (over_blocks f y (a ++ b)) (add-zero n) ∙ over_same y (a ++ b) a n (λ k l. block-before a b n k e l)
   over-append y a b n (suc k) e =
       ap (over_blocks f y (a ++ b)) (add-suc n k) ∙ ap₂ f (over-append y a b n k e) (block-behind a b n k e)
 
   -- the padded string has the blocks of the string itself
   pub over-padded : (y : A) (xs : List ℕ) → over_blocks f y (padded xs) (block_count (length xs)) ≡ over_blocks f y xs (block_count (length xs))
-  over-padded y xs = over-same y (padded xs) xs (block_count (length xs)) (λ k l. block-padded xs (block_count (length xs)) k l)
+  over-padded y xs = over_same y (padded xs) xs (block_count (length xs)) (λ k l. block-padded xs (block_count (length xs)) k l)

@@ -11,7 +11,7 @@ use lib.ListN.{length, get_or, take, drop, length-append}
 use lib.Seq.{drop-cons, drop-drop, take-add}
 use Rattle.octets.specs.Numbers.{big_endian_after, big_endian, to_big_endian, little_endian, to_little_endian, bytes_at}
 
--- ____ the highest byte first
+-- ---- the highest byte first
 
 pub big_append : (n : ℕ) (xs ys : List ℕ) → big_endian_after n (xs ++ ys) ≡ big_endian_after (big_endian_after n xs) ys
 unfolding big_endian_after
@@ -110,7 +110,7 @@ big_back (suc k) x h =
     ∙ ap (λ (n : ℕ). n * 256 + x % 256) (big_back k (x / 256) (shr_lt (k * 8) 8 l))
     ∙ d
 
--- ____ the lowest byte first
+-- ---- the lowest byte first
 
 little_step : (xs : List ℕ) (p q n : ℕ) → q ≡ suc p → p < length xs
     → little_endian (bytes_at p (suc n) xs) ≡ get_or xs p 0 + 256 * little_endian (bytes_at q n xs)

@@ -32,7 +32,7 @@ words-at s at h =
     ∙ pair-bytes (bytes_at at 8 s) (bytes_at (at + 8) 8 s) (length-take-le 8 (drop (at + 8) s) (omega arith)))
 
 -- two numbers, written one behind the other
-pub block-is : (a b : ℕ) → b < 2 ^ 64 → to_big_endian 8 a ++ to_big_endian 8 b ≡ to_big_endian 16 (pair a b)
-block-is a b hb =
+pub block_is : (a b : ℕ) → b < 2 ^ 64 → to_big_endian 8 a ++ to_big_endian 8 b ≡ to_big_endian 16 (pair a b)
+block_is a b hb =
     sym (big_split 8 8 (pair a b)
     ∙ ap₂ (λ (x : ℕ) (l : List ℕ). to_big_endian 8 x ++ l) (high a 64 hb) (sym (big_low 8 (pair a b)) ∙ ap (to_big_endian 8) (low a 64 hb)))

@@ -57,12 +57,12 @@ take-xor_with f g i k (x ∷ xs) (suc m) h =
     ap f a ∙ h (suc j) (omega arith) ∙ ap g b))
 
 -- one after the other
-both-xor_with : (f g : ℕ → ℕ) (i : ℕ) (xs : List ℕ) → xor_with g i (xor_with f i xs) ≡ xor_with (λ k. bit_xor (f k) (g k)) i xs
+both_xor_with : (f g : ℕ → ℕ) (i : ℕ) (xs : List ℕ) → xor_with g i (xor_with f i xs) ≡ xor_with (λ k. bit_xor (f k) (g k)) i xs
 unfolding xor_with
-both-xor_with f g i [] = refl
-both-xor_with f g i (x ∷ xs) = ap₂ (λ (y : ℕ) (ys : List ℕ). y ∷ ys) (xor_assoc x (f i) (g i)) (both-xor_with f g (suc i) xs)
+both_xor_with f g i [] = refl
+both_xor_with f g i (x ∷ xs) = ap₂ (λ (y : ℕ) (ys : List ℕ). y ∷ ys) (xor_assoc x (f i) (g i)) (both_xor_with f g (suc i) xs)
 
--- ____ byte strings
+-- ---- byte strings
 
 pub length-xor : (xs ys : List ℕ) → length (xor xs ys) ≡ length xs
 length-xor xs ys = length-xor_with (λ i. get_or ys i 0) 0 xs
@@ -79,7 +79,7 @@ xor-bytes_assoc xs ys zs h =
     λ j l.
     let b : 0 + j < length ys = omega arith in
     sym (get_or-xor_with (λ i. get_or zs i 0) 0 ys (0 + j) b ∙ ap (λ (i : ℕ). bit_xor (get_or ys (0 + j) 0) (get_or zs i 0)) (zero-add (0 + j))) in
-    both-xor_with (λ i. get_or ys i 0) (λ i. get_or zs i 0) 0 xs
+    both_xor_with (λ i. get_or ys i 0) (λ i. get_or zs i 0) 0 xs
     ∙ sym (take_all n (xor_with f 0 xs) (le_of_eq (length-xor_with f 0 xs)))
     ∙ take-xor_with f g 0 0 xs n agree
     ∙ take_all n (xor_with g 0 xs) (le_of_eq (length-xor_with g 0 xs))

@@ -46,8 +46,8 @@ module _ (call : Call) (w : Lent) (kind : FoldKind) (m : Bytes) (alone : tests s
           let says : done 0 ≡ answer suite call w = ap (λ (x : Bool). done (cond x 1 0)) (sym b) ∙ passed in
           makes_done call w (done 0) says refl w e
 
-      pub folded-in : (after : Lent) → status_allows kind m ≡ true → after ≡ effect suite call w → Makes call w (done 1) after
-      folded-in after b e =
+      pub folded_in : (after : Lent) → status_allows kind m ≡ true → after ≡ effect suite call w → Makes call w (done 1) after
+      folded_in after b e =
           let says : done 1 ≡ answer suite call w = ap (λ (x : Bool). done (cond x 1 0)) (sym b) ∙ passed in
           makes_done call w (done 1) says refl after e
 

@@ -29,7 +29,7 @@ pub fn read_behind<R: Read>(file: &mut R, window: &mut [u8], have: usize) -> io:
 }
 
 // The window's first `have` bytes were read; then the file ended, or not.
-#[derive(Drop)]
+#[derive(Clone, Copy)]
 pub struct Gathered {
     pub have: usize,
     pub ended: bool,

@@ -76,6 +76,6 @@ twenty n r h f = go (leb r 20) refl
         let v : 10 ^ 20 ≡ 100000000000000000000 = refl in
         absurd (omega arith)
 
-pub decimal-is : (n k : ℕ) → n < 18446744073709551616 → IsDigitCount 10 1 n k → last_digits 10 k n ≡ decimal n
+pub decimal_is : (n k : ℕ) → n < 18446744073709551616 → IsDigitCount 10 1 n k → last_digits 10 k n ≡ decimal n
 unfolding decimal
-decimal-is n k h f = let t = twenty n k h f in ap (λ (j : ℕ). last_digits 10 j n) (few 19 n k f (omega arith))
+decimal_is n k h f = let t = twenty n k h f in ap (λ (j : ℕ). last_digits 10 j n) (few 19 n k f (omega arith))

@@ -55,21 +55,21 @@ module _ {b text text' : Bytes} {at r : ℕ} where
 pub put_as : {a b text text' : Bytes} {at r : ℕ} → a ≡ b → Put a text at r text' → Put b text at r text'
 put_as {a} {b} {text} {text'} {at} {r} e p = subst (λ (x : Bytes). Put x text at r text') e p
 
-pub put-not : {b text : Bytes} {at : ℕ} {ok : Bool} → ok ≡ false → PutIf ok b text at at text
-put-not e = record { place = rw e refl; bytes = rw e refl }
+pub put_not : {b text : Bytes} {at : ℕ} {ok : Bool} → ok ≡ false → PutIf ok b text at at text
+put_not e = record { place = rw e refl; bytes = rw e refl }
 
 -- nothing, put anywhere
 pub put-nothing : (ok : Bool) (text : Bytes) (at : ℕ) → PutIf ok [] text at at text
 put-nothing true text at = record { place = omega arith; bytes = paste-zero text at [] }
 put-nothing false text at = record { place = refl; bytes = refl }
 
--- ____ room
+-- ---- room
 
-pub room-not : (text : Bytes) (at : ℕ) → length text < 42 → false ≡ roomy text at
-room-not text at h = sym (lt-leb (at + 42) (length text) (omega arith))
+pub room_not : (text : Bytes) (at : ℕ) → length text < 42 → false ≡ roomy text at
+room_not text at h = sym (lt-leb (at + 42) (length text) (omega arith))
 
-pub room-is : (text : Bytes) (at : ℕ) → 42 ≤ length text → leb at (length text - 42) ≡ roomy text at
-room-is text at h = by (leb at (length text - 42)) refl
+pub room_is : (text : Bytes) (at : ℕ) → 42 ≤ length text → leb at (length text - 42) ≡ roomy text at
+room_is text at h = by (leb at (length text - 42)) refl
   where
     by : (t : Bool) → leb at (length text - 42) ≡ t → leb at (length text - 42) ≡ roomy text at
     by true e = e ∙ sym (le-leb (at + 42) (length text) (let i = leb-true at (length text - 42) e in omega arith))
@@ -78,7 +78,7 @@ room-is text at h = by (leb at (length text - 42)) refl
 pub room_le : (text : Bytes) (at : ℕ) → roomy text at ≡ true → at + 42 ≤ length text
 room_le text at e = leb-true (at + 42) (length text) e
 
--- ____ gaps
+-- ---- gaps
 
 by_42 : (n g : ℕ) → leb g (n / 42) ≡ leb (42 * g) n
 by_42 n g = by (leb g (n / 42)) refl

@@ -28,7 +28,7 @@ equal_is (x ∷ a) (y ∷ b) = ap (λ (t : Bool). eqb x y && t) (equal_is a b)
 pub compared : {r : Bool} {b' : Bytes} (a b : Bytes) → r ≡ bytes_eq a b' → b' ≡ b → r ≡ same_bytes a b
 compared {r} {b'} a b e h = e ∙ equal_is a b' ∙ ap (same_bytes a) h
 
--- ____ the last slash
+-- ---- the last slash
 
 from : (a : Bytes) (i : ℕ) → i < length a → drop i a ≡ get_or a i 0 ∷ drop (i + 1) a
 from a i h = drop-cons a i 0 h ∙ ap (λ (k : ℕ). get_or a i 0 ∷ drop k a) (sym (add-one i))
@@ -60,7 +60,7 @@ pub length-beside : (path : Bytes) → length (beside path) ≡ folder_in path +
 unfolding beside
 length-beside path = length-append (take (folder_in path) path) template ∙ (let l = length-take-le (folder_in path) path (folder_le path) in omega arith)
 
--- ____ the name
+-- ---- the name
 
 module _ {path room : Bytes} {n : ℕ} (e : n ≡ folder_in path) where
   pub name_small : length room < 15 → PutName path room (length room) room
@@ -76,7 +76,7 @@ module _ {path room : Bytes} {n : ℕ} (e : n ≡ folder_in path) where
       let q : Put (take (folder_in path) path ++ template) room 0 r room' = subst (λ (k : ℕ). Put (take k path ++ template) room 0 r room') e p in
       record { place = rw f (q.place ∙ omega arith); bytes = rw f q.bytes }
 
--- ____ how many bytes of a room are meant
+-- ---- how many bytes of a room are meant
 
 pub whole_counts : (room : Bytes) → IsPrefixLen (length room) room
 whole_counts room = (omega arith, sym (ap length (take-length room)))

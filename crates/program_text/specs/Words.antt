@@ -21,7 +21,7 @@ last_slash found i (x ∷ xs) = last_slash (cond (eqb x 47) (i + 1) found) (i + 
 abbrev pub folder_in : Bytes → ℕ
 folder_in path = last_slash 0 0 path
 
--- `smb3seal-XXXXXX`, in which the system replaces the last six
+-- `smb3seal-XXXXXX`, in which the program replaces the last six
 abbrev pub template : Bytes
 template = 115 ∷ 109 ∷ 98 ∷ 51 ∷ 115 ∷ 101 ∷ 97 ∷ 108 ∷ 45 ∷ 88 ∷ 88 ∷ 88 ∷ 88 ∷ 88 ∷ 88 ∷ []
 

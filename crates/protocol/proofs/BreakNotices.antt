@@ -22,5 +22,5 @@ break_notices =
       related_first = refl;
       outside_next = refl;
       unaligned_next = refl;
-      next-no-header = refl;
+      next_no_header = refl;
     }

@@ -39,7 +39,7 @@ number-lines [] k = refl
 number-lines ((refuse n when true) ∷ ts) k = refl
 number-lines ((refuse n when false) ∷ ts) k = number-lines ts k
 
--- ____ what is left, once the answer is known
+-- ---- what is left, once the answer is known
 
 module _ (c : Call) (w : Lent) where
   pub left-refused : (n : ℕ) → answer suite c w ≡ refused n → left suite c w ≡ w

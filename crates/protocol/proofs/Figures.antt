@@ -42,9 +42,9 @@ pub record Figures : Type 0 where
   pub contexts_300 : lengths (smb_sign ∷ smb_rpc ∷ server_in ∷ server_out ∷ []) ≡ 8 ∷ 7 ∷ 10 ∷ 10 ∷ []
   -- "padded right with zeros"
   pub short-material : session_key (1 ∷ 2 ∷ []) ≡ 1 ∷ 2 ∷ replicate 14 0
-  -- "chain": "23 is tested before the status"
+  -- "Chain": "23 is tested before the status"
   pub length-first : answer suite (folding setup_response (replicate 63 0)) (only_chain fresh_chain) ≡ refused 23
-  -- "ciphers": the flag byte of CCM's first block, and what its authenticated data begin with
+  -- "Ciphers": the flag byte of CCM's first block, and what its authenticated data begin with
   pub first-flags : (n size id : ℕ) → flags 4 16 (length (authenticated n size id)) ≡ 0x7B
   pub associated-begins : (n size id : ℕ) → take 2 (associated (authenticated n size id)) ≡ 0 ∷ 0x20 ∷ []
   -- the nonce bytes of each cipher fill its counter blocks

@@ -26,9 +26,9 @@ both : (m : Bytes) (a : Answer) → walk m (session5 false) ≡ a → walk m (se
 both m a c s false = c
 both m a c s true = s
 
-pub p-lines : PLines
+pub p_lines : PLines
 unfolding walk tests open_tests nonce_of little_endian to_little_endian same_bytes derived_keys
-p-lines =
+p_lines =
     record {
       P1 = refl;
       P2 = refl;

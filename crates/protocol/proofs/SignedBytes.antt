@@ -14,7 +14,7 @@ use Rattle.octets.proofs.NumberLaws.{length-to_little_endian}
 use Rattle.protocol.specs.Bytes.{Bytes, number_at}
 use Rattle.protocol.specs.Signing.{is_signed, with_signed_flag, with_signature}
 
--- ____ as the code puts them there
+-- ---- as the code puts them there
 
 -- 16 bytes, copied into the place of the signature
 pub stored_is : (s m : Bytes) → length s ≡ 16 → paste m 48 s (length s) ≡ with_signature s m
@@ -36,7 +36,7 @@ flagged_length m long =
     let b = length-append flags (drop 20 m) in
     omega (arith, l16, length-to_little_endian 4 (bit_or (number_at 16 4 m) 8), length-drop 20 m)
 
--- ____ in front of more bytes
+-- ---- in front of more bytes
 
 module _ (a b : Bytes) (long : 64 ≤ length a) where
   same_field : (p n : ℕ) → p + n ≤ 64 → bytes_at p n (a ++ b) ≡ bytes_at p n a
@@ -61,7 +61,7 @@ module _ (a b : Bytes) (long : 64 ≤ length a) where
       ∙ ap (λ (x : Bytes). take 48 a ++ x) (sym (append_assoc s (drop 64 a) b))
       ∙ sym (append_assoc (take 48 a) (s ++ drop 64 a) b)
 
--- ____ where the flag is there already
+-- ---- where the flag is there already
 
 bit-set : (b : ℕ) → b ≡ 1 → bit_or b 1 ≡ 1
 bit-set b e = ap (λ (x : ℕ). bit_or x 1) e

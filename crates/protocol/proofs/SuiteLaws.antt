@@ -26,15 +26,15 @@ use Rattle.protocol.specs.Sound.{Sound}
 use Rattle.protocol.specs.Ciphers.{aes, ccm_nonce, gcm_nonce, Cipher, aes_ccm, aes_gcm, cipher_of}
 use Rattle.protocol.specs.Suite.{suite, sha512, kdf, cmac}
 
--- ____ each part is what its own crate defines
+-- ---- each part is what its own crate defines
 
-pub sha512-is : (m : Bytes) → sha512 m ≡ hash sha2.sha512 m
+pub sha512_is : (m : Bytes) → sha512 m ≡ hash sha2.sha512 m
 unfolding suite
-sha512-is m = refl
+sha512_is m = refl
 
-pub kdf-is : (n : ℕ) (key label context : Bytes) → kdf n key label context ≡ derive_sha256 n key label context
+pub kdf_is : (n : ℕ) (key label context : Bytes) → kdf n key label context ≡ derive_sha256 n key label context
 unfolding suite
-kdf-is n key label context = refl
+kdf_is n key label context = refl
 
 -- each size of key is within one block
 one_block : (wide : Bool) → (0 < cipher_key_bytes wide) × (cipher_key_bytes wide ≤ 32)
@@ -47,11 +47,11 @@ pub kdf-of_document : (wide : Bool) (key label context : Bytes)
 unfolding suite derivation_input
 kdf-of_document wide key label context = of-bytes (cipher_key_bytes wide) (one_block wide).0 (one_block wide).1 key label context
 
-pub cmac-is : (key m : Bytes) → cmac key m ≡ rfc4493.cmac (aes key) m
+pub cmac_is : (key m : Bytes) → cmac key m ≡ rfc4493.cmac (aes key) m
 unfolding suite
-cmac-is key m = refl
+cmac_is key m = refl
 
--- ____ what is relied on
+-- ---- what is relied on
 
 -- of one cipher
 record SoundCipher (x : Cipher) : Type 0 where

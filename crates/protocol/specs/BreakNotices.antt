@@ -37,4 +37,4 @@ pub record BreakNotices : Type 0 where
   pub related_first : walk (notice 4 0) (session5 true) ≡ refused 13
   pub outside_next : walk (notice 0 65 ++ header 0 0 5) (session5 true) ≡ refused 15
   pub unaligned_next : walk (notice 0 68 ++ (replicate 8 0 ++ header 0 0 5)) (session5 true) ≡ refused 16
-  pub next-no-header : walk (notice 0 64 ++ replicate 64 0) (session5 true) ≡ refused 12
+  pub next_no_header : walk (notice 0 64 ++ replicate 64 0) (session5 true) ≡ refused 12

@@ -21,7 +21,7 @@ use Rattle.protocol.specs.Refusals.{bad_tag, bad_size, counter_used_up, unknown_
 use Rattle.protocol.specs.Refusals.{inner_too_short, not_header, not_signed, bad_signature}
 use Rattle.protocol.specs.Transform.{Primitives, sealed_under, plaintext_under, opened_to}
 
--- ____ the calls, each with all that it only reads
+-- ---- the calls, each with all that it only reads
 
 pub data Call : Type 0 where
   -- dialect, cipher, chain value, key material
@@ -120,7 +120,7 @@ chain_and_underway v u = with_underway u (only_chain v)
 abbrev pub only_signature : Bytes → Lent
 only_signature place = with_signature_place place nothing
 
--- ____ what a call tests: lines of the table of numbers, the walk if there is one, lines after it
+-- ---- what a call tests: lines of the table of numbers, the walk if there is one, lines after it
 
 -- the inner message that is walked over, or what a done answer carries where there is none
 pub data Inner : Type 0 where
@@ -148,7 +148,7 @@ lines ts = record { before = ts; walked = carries 0; later = [] }
 abbrev pub sent_by : Role → ℕ → Envelope
 sent_by r id = record { id = id; from_server = is_server r }
 
--- ____ parts that several calls share
+-- ---- parts that several calls share
 
 -- 40: a cipher key, a signing key, a chain value
 abbrev pub key_tests : Connection → Bytes → List Test
@@ -217,7 +217,7 @@ abbrev pub add_tests : Adding → Bool → Bool → List Test
 add_tests a taken room =
     chain_tests a.chain ++ (material_tests a.dialect a.cipher a.material ++ (id_zero a.id ∷ id_taken taken ∷ table_full room ∷ []))
 
--- ____ sealing and opening with a record
+-- ---- sealing and opening with a record
 
 module _ (P : Primitives) (c : Connection) (m : Bytes) (s : Session) where
   -- "sealing 1, 2, 3, 6, 7, 8, 11 to 16, 17", with 35 after 8
@@ -239,7 +239,7 @@ module _ (P : Primitives) (c : Connection) (m : Bytes) (s : Session) where
         later = [];
       }
 
--- ____ one clause for one call
+-- ---- one clause for one call
 
 module _ (P : Primitives) where
   unfoldable pub tests : Call → Lent → Tests
@@ -303,7 +303,7 @@ module _ (P : Primitives) where
   -- it "never changes the table"
   effect (opening c) w = with_message (opened_to w.message (plaintext P c w.message (record_of (session_id_of w.message) w.table))) w
 
-  -- ____ and once for all calls
+  -- ---- and once for all calls
 
   abbrev pub answer : Call → Lent → Answer
   answer c w = verdict (tests c w)

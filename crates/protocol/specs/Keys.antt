@@ -21,7 +21,7 @@ cipher_material wide material = cond wide material (session_key material)
 unfoldable pub derivation_input : ℕ → Bytes → Bytes → Bytes
 derivation_input bytes label context = 0 ∷ 0 ∷ 0 ∷ 1 ∷ (label ++ (0 ∷ (context ++ to_big_endian 4 (8 * bytes))))
 
--- ____ "Labels and fixed contexts carry their own final zero byte." The table's column "3.1.1 label"
+-- ---- "Labels and fixed contexts carry their own final zero byte." The table's column "3.1.1 label"
 
 -- "SMBSigningKey"
 unfoldable pub smb_signing_key : Bytes
@@ -39,7 +39,7 @@ smb_c2_s_cipher_key = 0x53 ∷ 0x4D ∷ 0x42 ∷ 0x43 ∷ 0x32 ∷ 0x53 ∷ 0x43
 unfoldable pub smb_s2_c_cipher_key : Bytes
 smb_s2_c_cipher_key = 0x53 ∷ 0x4D ∷ 0x42 ∷ 0x53 ∷ 0x32 ∷ 0x43 ∷ 0x43 ∷ 0x69 ∷ 0x70 ∷ 0x68 ∷ 0x65 ∷ 0x72 ∷ 0x4B ∷ 0x65 ∷ 0x79 ∷ 0 ∷ []
 
--- ____ the table's column "3.0, 3.0.2 label"
+-- ---- the table's column "3.0, 3.0.2 label"
 
 -- "SMB2AESCMAC"
 unfoldable pub smb2_aes_cmac : Bytes
@@ -53,7 +53,7 @@ smb2_app = 0x53 ∷ 0x4D ∷ 0x42 ∷ 0x32 ∷ 0x41 ∷ 0x50 ∷ 0x50 ∷ 0 ∷ 
 unfoldable pub smb2_aes_ccm : Bytes
 smb2_aes_ccm = 0x53 ∷ 0x4D ∷ 0x42 ∷ 0x32 ∷ 0x41 ∷ 0x45 ∷ 0x53 ∷ 0x43 ∷ 0x43 ∷ 0x4D ∷ 0 ∷ []
 
--- ____ the table's column "3.0, 3.0.2 context"
+-- ---- the table's column "3.0, 3.0.2 context"
 
 -- "SmbSign"
 unfoldable pub smb_sign : Bytes
@@ -71,7 +71,7 @@ server_in = 0x53 ∷ 0x65 ∷ 0x72 ∷ 0x76 ∷ 0x65 ∷ 0x72 ∷ 0x49 ∷ 0x6E 
 unfoldable pub server_out : Bytes
 server_out = 0x53 ∷ 0x65 ∷ 0x72 ∷ 0x76 ∷ 0x65 ∷ 0x72 ∷ 0x4F ∷ 0x75 ∷ 0x74 ∷ 0 ∷ []
 
--- ____ the keys: "signing and application keys stay at 16 bytes from the session key"
+-- ---- the keys: "signing and application keys stay at 16 bytes from the session key"
 
 pub record Keys : Type 0 where
   pub signing : Bytes

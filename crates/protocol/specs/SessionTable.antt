@@ -38,7 +38,7 @@ sealing_key server k = k.server_to_client
 abbrev pub opening_key : Role → Keys → Bytes
 opening_key r k = sealing_key (other r) k
 
--- ____ "Lookup takes the first used record with the id"
+-- ---- "Lookup takes the first used record with the id"
 
 abbrev pub is_session : ℕ → Session → Bool
 is_session i s = s.used && eqb s.id i
@@ -57,7 +57,7 @@ change_record f i (s ∷ t) = cond (is_session i s) (f s ∷ t) (s ∷ change_re
 abbrev pub remove_record : ℕ → List Session → List Session
 remove_record i t = change_record (λ s. free_record) i t
 
--- ____ "Adding uses the first free record, with counter 0."
+-- ---- "Adding uses the first free record, with counter 0."
 
 abbrev pub has_free : List Session → Bool
 has_free [] = false
@@ -99,7 +99,7 @@ module _ (kdf : ℕ → Bytes → Bytes → Bytes → Bytes) where
         counter = 0;
       }
 
--- ____ the counter
+-- ---- the counter
 
 -- "The counter goes up by one and nothing else in the table changes."
 abbrev pub count_up : Session → Session

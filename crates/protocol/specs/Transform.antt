@@ -7,7 +7,7 @@ use Rattle.std.proofs.Math.Option.{Option, get_or}
 use Rattle.protocol.specs.Bytes.{Bytes}
 use Rattle.protocol.specs.TransformHeader.{nonce_of, authenticated, transform_message, inner, signature_of, nonce_field, authenticated_of}
 
--- ____ the primitives
+-- ---- the primitives
 
 -- the ciphers, by number. The nonce is the header's field of 16 bytes, of which each cipher takes its 11 or 12
 pub record Ciphers : Type 0 where
@@ -25,7 +25,7 @@ pub record Primitives : Type 0 where
   pub cmac : Bytes → Bytes → Bytes
   pub ciphers : Ciphers
 
--- ____ cipher, key, then what is sealed or opened
+-- ---- cipher, key, then what is sealed or opened
 
 module _ (P : Ciphers) where
   -- what the buffer holds after sealing its inner message p with the counter for the session id: "It writes all 52 bytes", and the

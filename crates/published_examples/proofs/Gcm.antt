@@ -47,6 +47,6 @@ test_4_body : encrypt E nonce text ≡ body
 unfolding big_endian_after to_big_endian xor_with ctr encrypt
 test_4_body = refl
 
-test_4-tag : tag E nonce aad body ≡ to_big_endian 16 0x5bc94fbc3221a5db94fae95ae7121a47
+test_4_tag : tag E nonce aad body ≡ to_big_endian 16 0x5bc94fbc3221a5db94fae95ae7121a47
 unfolding big_endian_after to_big_endian zero_padded over_blocks xor_with times_x product ghash_from hash_input tag
-test_4-tag = refl
+test_4_tag = refl

@@ -43,7 +43,7 @@ fn goes_on(line: Line) -> bool
     }
 }
 
-#[derive(Drop)]
+#[derive(Clone, Copy)]
 pub struct AfterTurn {
     pub lab: Lab,
     pub progress: Progress,

@@ -37,7 +37,7 @@ pub record Pieces : Type 0 where
   pub gap_ends : (e : Edition) (s : Bytes) → readable e s ≡ false → 0 < length s → piece_length e s < length s
       → is_found e (drop (piece_length e s) s) ≡ true
   -- what comes out reads whole: the good records, and nothing is left
-  pub comes-out : (e : Edition) (s : Bytes) → read_all e (kept_bytes (pieces e s)) ≡ record { records = kept_records e (pieces e s); rest = [] }
+  pub comes_out : (e : Edition) (s : Bytes) → read_all e (kept_bytes (pieces e s)) ≡ record { records = kept_records e (pieces e s); rest = [] }
   -- at most one gap for nine bytes, and one more
   pub few_gaps : (e : Edition) (s : Bytes) → 9 * gap_count (pieces e s) ≤ length s + 8
 
@@ -56,5 +56,5 @@ pub record Files : Type 0 where
   pub enough-room : (f : Bytes) (n m : ℕ) → good_file_head edition_of f ≡ true → length f ≤ n → 2 * (length f / 9 + 1) ≤ m → roomy f n m ≡ true
 
 pub record Rescue : Type 0 where
-  pub its-pieces : Pieces
+  pub its_pieces : Pieces
   pub its_files : Files

@@ -21,9 +21,9 @@ of_zero : inverse 0 ≡ 0
 unfolding inverse even_powers mul products xtimes
 of_zero = refl
 
-pub inverse-is : (b : ℕ) → b < 256 → IsInverse b (inverse b)
-inverse-is zero h = record { product = λ p. absurd (omega arith); of_zero = λ e. of_zero }
-inverse-is (suc k) h =
+pub inverse_is : (b : ℕ) → b < 256 → IsInverse b (inverse b)
+inverse_is zero h = record { product = λ p. absurd (omega arith); of_zero = λ e. of_zero }
+inverse_is (suc k) h =
     record {
       product = λ p. eqb→eq (mul (suc k) (inverse (suc k))) 1 (at is_one (replicate 255 0) all_one k (le_of_suc-le-suc h));
       of_zero = λ e. absurd (omega arith);

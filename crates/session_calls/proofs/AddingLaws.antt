@@ -25,7 +25,7 @@ use Rattle.session_record.specs.declared.Session.{Session}
 use Rattle.session_record.specs.Reading.{stored}
 use Rattle.session_record.specs.Adds.{adding_of, record_with, AddsWith}
 
--- ____ the record
+-- ---- the record
 
 -- the zero key of either size, as it is stored
 zero-stored : (wide : Bool) → table.zero_key 32 ≡ zero_padded 32 (table.zero_key (cipher_key_bytes wide))
@@ -68,7 +68,7 @@ module _ (a : Adding) (wide : Bool) (k : rules.Keys) where
   held-stored true = λ i. with (zero-stored wide i) (zero-stored wide i)
   held-stored false = refl
 
--- ____ the numbers, and the ways out
+-- ---- the numbers, and the ways out
 
 module _ (a : Adding) (chain material : Bytes) (taken room : Bool) (old : Session) (line20 line18 n : ℕ)
     (e20 : line20 ≡ first_of (id_zero a.id ∷ id_taken taken ∷ table_full room ∷ []))

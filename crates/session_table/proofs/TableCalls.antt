@@ -34,7 +34,7 @@ use Rattle.session_record.specs.declared.Session.{Session}
 use Rattle.session_record.specs.declared.Adding.{Adding}
 use Rattle.session_record.specs.declared.Changed.{Changed}
 use Rattle.session_record.specs.Reading.{free, is_wanted, session_of, stored, stepped}
-use Rattle.session_record.proofs.StoredLaws.{free-read, new_read}
+use Rattle.session_record.proofs.StoredLaws.{free_read, new_read}
 use Rattle.session_record.specs.Adds.{adding_of, AddsWith}
 use Rattle.session_record.specs.Clauses.{SealsWith, counter_moves, OpensWith, named_id, removed_of}
 use Rattle.session_table.specs.Place.{first, place_of, free_place}
@@ -43,36 +43,36 @@ use Rattle.session_table.specs.Exactly.{counted_up, changed, Exactly}
 use Rattle.session_table.proofs.TableLink.{reads, changes, fills, has_free_lem, keeps}
 use Rattle.session_table.proofs.StepLaws.{step-none, step-one, steps_alike}
 
--- ____ the table of the rules, from the table of the code
+-- ---- the table of the rules, from the table of the code
 
-reads-changed : (c : Call) (m : Bytes) (t : List Session) → table_of (changed c t) ≡ (effect suite c (message_and_table m (table_of t))).table
+reads_changed : (c : Call) (m : Bytes) (t : List Session) → table_of (changed c t) ≡ (effect suite c (message_and_table m (table_of t))).table
 unfolding changed effect
-reads-changed (adding a) m t =
+reads_changed (adding a) m t =
     sym (fills (stored (protocol.new_record kdf a)) t)
     ∙ ap (λ (s : protocol.Session). protocol.fill_free s (table_of t)) (new_read a)
-reads-changed (removing id) m t = sym (changes (λ s. protocol.free_record) id t free free-read)
-reads-changed (stepping id by) m t = sym (changes (protocol.counter_step by) id t _ (steps_alike by _))
-reads-changed (sealing c id) m t = sym (changes protocol.count_up id t _ refl)
-reads-changed (opening c) m t = refl
-reads-changed (derivation dialect cipher chain material) m t = refl
-reads-changed (folding kind v) m t = refl
-reads-changed (fold_beginning v) m t = refl
-reads-changed (fold_piece p) m t = refl
-reads-changed (fold_finishing kind) m t = refl
-reads-changed (sealing_under c key id) m t = refl
-reads-changed (opening_under c key id) m t = refl
-reads-changed (signing_under key) m t = refl
-reads-changed (verifying_under key) m t = refl
-reads-changed (sign_beginning key) m t = refl
-reads-changed (sign_piece p) m t = refl
-reads-changed (sign_finishing u) m t = refl
-reads-changed (verify_finishing u) m t = refl
+reads_changed (removing id) m t = sym (changes (λ s. protocol.free_record) id t free free_read)
+reads_changed (stepping id by) m t = sym (changes (protocol.counter_step by) id t _ (steps_alike by _))
+reads_changed (sealing c id) m t = sym (changes protocol.count_up id t _ refl)
+reads_changed (opening c) m t = refl
+reads_changed (derivation dialect cipher chain material) m t = refl
+reads_changed (folding kind v) m t = refl
+reads_changed (fold_beginning v) m t = refl
+reads_changed (fold_piece p) m t = refl
+reads_changed (fold_finishing kind) m t = refl
+reads_changed (sealing_under c key id) m t = refl
+reads_changed (opening_under c key id) m t = refl
+reads_changed (signing_under key) m t = refl
+reads_changed (verifying_under key) m t = refl
+reads_changed (sign_beginning key) m t = refl
+reads_changed (sign_piece p) m t = refl
+reads_changed (sign_finishing u) m t = refl
+reads_changed (verify_finishing u) m t = refl
 
 leaves_table : (c : Call) (m : Bytes) (t t' : List Session) → Exactly c (message_and_table m (table_of t)) t t'
     → table_of t' ≡ when_done (answer suite c (message_and_table m (table_of t))) (λ n. (effect suite c (message_and_table m (table_of t))).table) (table_of t)
 leaves_table c m t t' e =
     let a = answer suite c (message_and_table m (table_of t)) in
-    ap table_of e ∙ when_part table_of a (changed c t) t ∙ ap (λ (x : List protocol.Session). when_done a (λ n. x) (table_of t)) (reads-changed c m t)
+    ap table_of e ∙ when_part table_of a (changed c t) t ∙ ap (λ (x : List protocol.Session). when_done a (λ n. x) (table_of t)) (reads_changed c m t)
 
 -- a record that stands there only where the call is done, put at its place
 put : (v : Answer) (ys zs : List Session) (i : ℕ) (new : Session) → zs ≡ set ys i (when_done v (λ n. new) (get_or ys i free))
@@ -84,7 +84,7 @@ put v ys zs i new e =
 pub taken : (ys : List Session) (id i : ℕ) (s : Session) → i ≡ place_of id ys → s ≡ get_or ys i free → session_of s ≡ protocol.record_of id (table_of ys)
 taken ys id i s e e' = ap session_of (e' ∙ ap (λ (k : ℕ). get_or ys k free) e) ∙ sym (reads id ys)
 
--- ____ removing
+-- ---- removing
 
 -- a session that is not there: nothing is put
 absent : (id : ℕ) (ys : List Session) (new : Session) → flag (get_or ys (place_of id ys) free).used ≡ false → set ys (place_of id ys) new ≡ ys
@@ -103,22 +103,22 @@ absent id (x ∷ xs) new u = go (is_wanted true id x) refl u (absent id xs new)
     go false e u below = ap (λ (r : List Session). x ∷ r) (below u)
 
 module _ (ys zs : List Session) (id i : ℕ) (s : Session) (r : Changed) where
-  abbrev is-there : Bool
-  is-there = (protocol.record_of id (table_of ys)).used
+  abbrev is_there : Bool
+  is_there = (protocol.record_of id (table_of ys)).used
 
   abbrev line6 : List Test
-  line6 = other_session is-there ∷ []
+  line6 = other_session is_there ∷ []
 
   pub removed_says : i ≡ place_of id ys → s ≡ get_or ys i free → r ≡ removed_of s → zs ≡ set ys i r.session
       → Returns (removing id) (only_table (table_of ys)) r.number (only_table (table_of zs)) × Exactly (removing id) (only_table (table_of ys)) ys zs
   unfolding tests effect changed removed_of
   removed_says e e' er ez = (record { number = number; leaves = leaves }, exactly)
     where
-      there : flag s.used ≡ is-there
+      there : flag s.used ≡ is_there
       there = ap (λ (x : protocol.Session). x.used) (taken ys id i s e e')
 
-      lined : cond is-there 0 6 ≡ answer_number (verdict (lines line6))
-      lined = go is-there
+      lined : cond is_there 0 6 ≡ answer_number (verdict (lines line6))
+      lined = go is_there
         where
           go : (b : Bool) → cond b 0 6 ≡ answer_number (verdict (lines (other_session b ∷ [])))
           go true = refl
@@ -131,9 +131,9 @@ module _ (ys zs : List Session) (id i : ℕ) (s : Session) (r : Changed) where
       placed = ez ∙ (λ j. set ys (e j) (er j).session)
 
       exactly : Exactly (removing id) (only_table (table_of ys)) ys zs
-      exactly = go is-there refl
+      exactly = go is_there refl
         where
-          go : (b : Bool) → is-there ≡ b → zs ≡ when_done (verdict (lines (other_session b ∷ []))) (λ k. set ys (place_of id ys) free) ys
+          go : (b : Bool) → is_there ≡ b → zs ≡ when_done (verdict (lines (other_session b ∷ []))) (λ k. set ys (place_of id ys) free) ys
           go true u = placed
           go false u =
               placed ∙ absent id ys free (sym (ap (λ (x : Session). flag x.used) (e' ∙ ap (λ (k : ℕ). get_or ys k free) e)) ∙ there ∙ u)
@@ -143,7 +143,7 @@ module _ (ys zs : List Session) (id i : ℕ) (s : Session) (r : Changed) where
           ap only_table (leaves_table (removing id) [] ys zs exactly)
           ∙ when_part only_table (verdict (lines line6)) (protocol.remove_record id (table_of ys)) (table_of ys)
 
--- ____ adding
+-- ---- adding
 
 module _ (ys zs : List Session) (x : Adding) (material chain : Bytes) (i f : ℕ) (there old : Session) (r : Changed) where
   abbrev asked : protocol.Adding
@@ -183,7 +183,7 @@ module _ (ys zs : List Session) (x : Adding) (material chain : Bytes) (i f : ℕ
           ap only_table (leaves_table (adding asked) [] ys zs exactly)
           ∙ when_part only_table answered (protocol.fill_free (protocol.new_record kdf asked) (table_of ys)) (table_of ys)
 
--- ____ sealing
+-- ---- sealing
 
 module _ (c : Connection) (id : ℕ) (m : Bytes) (ys : List Session) where
   abbrev record_of : protocol.Session
@@ -247,7 +247,7 @@ module _ (c : Connection) (id : ℕ) (m : Bytes) (ys : List Session) where
                 ∙ when_two message_and_table sealed (sealed_with suite c m record_of id) m (protocol.change_record protocol.count_up id (table_of ys)) (table_of ys);
           }
 
--- ____ opening
+-- ---- opening
 
 module _ (c : Connection) (m : Bytes) where
   abbrev opened : protocol.Session → Answer

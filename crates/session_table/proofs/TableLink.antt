@@ -14,14 +14,14 @@ use lib.Dec.{ltb, is_le}
 use Rattle.session_record.specs.declared.Session.{Session}
 use Rattle.connection.specs.Reading.{flag}
 use Rattle.session_record.specs.Reading.{free, is_wanted, session_of}
-use Rattle.session_record.proofs.StoredLaws.{free-read}
+use Rattle.session_record.proofs.StoredLaws.{free_read}
 use Rattle.session_table.specs.Place.{first, place_of, free_place}
 use Rattle.protocol.specs.SessionTable as model
 use Rattle.session_table.specs.Reading.{table_of}
 
 pub reads : (id : ℕ) (t : List Session) → model.record_of id (table_of t) ≡ session_of (get_or t (place_of id t) free)
 unfolding first
-reads id [] = sym free-read
+reads id [] = sym free_read
 reads id (x ∷ xs) = go (is_wanted true id x) (reads id xs)
   where
     go : (b : Bool) → model.record_of id (table_of xs) ≡ session_of (get_or xs (place_of id xs) free)

@@ -8,22 +8,22 @@ use Rattle.octets.proofs.NumberLaws.{length-to_big_endian}
 use Rattle.octets.proofs.Paste.{part_all}
 use Rattle.sha_2.specs.Sha2.{hash_blocks, digest, zeros, padding, hash}
 use Rattle.sha_2.specs.Sha512.{sha512}
-use Rattle.sha_2.proofs.Streaming.{length_part, holds-within, holds-beyond, holds-end}
+use Rattle.sha_2.proofs.Streaming.{length_part, holds_within, holds_beyond, holds_end}
 use Rattle.sha512.specs.declared.Sha512.{Sha512}
 use Rattle.sha512.specs.Code.{waiting, room, within, beyond, updated, finished, Holds}
 
--- ____ by the way that the code takes
+-- ---- by the way that the code takes
 
-same-state : {h h' b b' : List ℕ} {c c' : ℕ} → h ≡ h' → b ≡ b' → c ≡ c'
+same_state : {h h' b b' : List ℕ} {c c' : ℕ} → h ≡ h' → b ≡ b' → c ≡ c'
     → ◌≡◌ {A = Sha512} (record { hash = h; buffer = b; count = c }) (record { hash = h'; buffer = b'; count = c' })
-same-state eh eb ec = λ i. record { hash = eh i; buffer = eb i; count = ec i }
+same_state eh eb ec = λ i. record { hash = eh i; buffer = eb i; count = ec i }
 
 module _ (s : Sha512) (x : List ℕ) {count' : ℕ} (ec : count' ≡ (s.count + length x) % 2 ^ 64) where
   pub updated-within : {buffer' : List ℕ} → length x < room s → buffer' ≡ paste s.buffer (waiting s) x (length x)
       → ◌≡◌ {A = Sha512} (record { hash = s.hash; buffer = buffer'; count = count' }) (updated s x)
   unfolding updated within
   updated-within short eb =
-      same-state refl eb ec ∙ sym (ap (λ (b : Bool). cond b (within s x) (beyond s x)) (lt-ltb (length x) (room s) short))
+      same_state refl eb ec ∙ sym (ap (λ (b : Bool). cond b (within s x) (beyond s x)) (lt-ltb (length x) (room s) short))
 
   -- the code lends a part from n on as `take (length x - n) (drop n x)`
   pub updated-beyond : {buffer₁ buffer₂ hs₁ hs₂ : List ℕ}
@@ -45,14 +45,14 @@ module _ (s : Sha512) (x : List ℕ) {count' : ℕ} (ec : count' ≡ (s.count + 
       let h₁ : hs₁ ≡ hash_blocks sha512 s.hash 1 block = eh₁ ∙ ap₂ (λ (k : ℕ) (l : List ℕ). hash_blocks sha512 s.hash (k / 128) l) lb₁ eb₁ in
       let h₂ = eh₂ ∙ ap₂ (λ (v l : List ℕ). hash_blocks sha512 v (length l / 128) l) h₁ d₂ in
       let b₂ = eb₂ ∙ ap₂ (λ (b l : List ℕ). paste b 0 l (length l)) eb₁ d₃ in
-      same-state h₂ b₂ ec ∙ sym (ap (λ (b : Bool). cond b (within s x) (beyond s x)) (le-ltb (length x) (room s) fills))
+      same_state h₂ b₂ ec ∙ sym (ap (λ (b : Bool). cond b (within s x) (beyond s x)) (le-ltb (length x) (room s) fills))
 
 pub finished_by : (s : Sha512) {end hs r : List ℕ} → end ≡ take (waiting s) s.buffer ++ padding sha512 s.count
     → hs ≡ hash_blocks sha512 s.hash (length end / 128) end → r ≡ digest sha512 8 hs → r ≡ finished s
 unfolding finished
 finished_by s ee eh er = er ∙ ap (digest sha512 8) (eh ∙ ap (λ (l : List ℕ). hash_blocks sha512 s.hash (length l / 128) l) ee)
 
--- ____ of a state that holds a message
+-- ---- of a state that holds a message
 
 -- the count goes on within the block, or beyond it
 counts_within : (count k : ℕ) → k < 128 - count % 128 → (count + k) % 2 ^ 64 % 128 ≡ count % 128 + k
@@ -73,7 +73,7 @@ module _ (s : Sha512) (m x : List ℕ) (h : Holds s m) where
       let size : length (paste s.buffer n x (length x)) ≡ 128 =
       length-paste s.buffer n x (length x) (omega (arith, h.room, short)) (le_refl (length x)) ∙ h.room in
       subst (λ (t : Sha512). Holds t (m ++ x)) (updated-within s x refl short refl)
-      (holds-within sha512 x refl (counts_within s.count (length x) short) (omega (arith, short)) refl size h)
+      (holds_within sha512 x refl (counts_within s.count (length x) short) (omega (arith, short)) refl size h)
   held false e =
       let fills = ltb-false (length x) (room s) e in
       let n = waiting s in
@@ -88,15 +88,15 @@ module _ (s : Sha512) (m x : List ℕ) (h : Holds s m) where
       let size₂ : length (paste b₁ 0 x₃ (length x₃)) ≡ 128 =
       length-paste b₁ 0 x₃ (length x₃) (omega (arith, size₁, l₃, left_over (length x₂))) (le_refl (length x₃)) ∙ size₁ in
       subst (λ (t : Sha512). Holds t (m ++ x)) (updated-beyond s x refl fills refl size₁ refl refl refl)
-      (holds-beyond sha512 x (lit< tt) refl (counts_beyond s.count (length x) fills) fills refl size₁ refl refl refl size₂ h)
+      (holds_beyond sha512 x (lit< tt) refl (counts_beyond s.count (length x) fills) fills refl size₁ refl refl refl size₂ h)
 
   -- it takes in a piece
-  pub updated-holds : Holds (updated s x) (m ++ x)
-  updated-holds = held (ltb (length x) (room s)) refl
+  pub updated_holds : Holds (updated s x) (m ++ x)
+  updated_holds = held (ltb (length x) (room s)) refl
 
 -- the same of what the code hands back
-pub takes-in : (s : Sha512) (x : List ℕ) {s' : Sha512} {m : List ℕ} → s' ≡ updated s x → Holds s m → Holds s' (m ++ x)
-takes-in s x {s'} {m} e h = subst (λ (t : Sha512). Holds t (m ++ x)) (sym e) (updated-holds s m x h)
+pub takes_in : (s : Sha512) (x : List ℕ) {s' : Sha512} {m : List ℕ} → s' ≡ updated s x → Holds s m → Holds s' (m ++ x)
+takes_in s x {s'} {m} e h = subst (λ (t : Sha512). Holds t (m ++ x)) (sym e) (updated_holds s m x h)
 
 -- the last blocks are whole
 last-whole : (n : ℕ) → (n % 128 + (1 + zeros sha512 n + 16)) % 128 ≡ 0
@@ -113,16 +113,16 @@ length-padding n =
     length-append a b ∙ sum
 
 -- and it ends
-pub finished-is : (s : Sha512) (m : List ℕ) → Holds s m → length m < 2 ^ 64 → finished s ≡ hash sha512 m
+pub finished_is : (s : Sha512) (m : List ℕ) → Holds s m → length m < 2 ^ 64 → finished s ≡ hash sha512 m
 unfolding finished
-finished-is s m h l =
+finished_is s m h l =
     let part : List ℕ = take (waiting s) s.buffer in
     let end : List ℕ = part ++ padding sha512 s.count in
     let size : length end ≡ waiting s + (1 + zeros sha512 s.count + 16) =
     length-append part (padding sha512 s.count)
     ∙ ap₂ ◌+◌ (length_part sha512 s.count s.buffer (lit< tt) h.room) (length-padding s.count) in
-    holds-end sha512 end (length end) (lit< tt) (ap (padding sha512) (h.counted ∙ mod-eq_of_lt l)) (take-length end) (le_refl (length end))
+    holds_end sha512 end (length end) (lit< tt) (ap (padding sha512) (h.counted ∙ mod-eq_of_lt l)) (take-length end) (le_refl (length end))
     (ap (λ (k : ℕ). k % 128) size ∙ last-whole s.count) (ap (λ (y : List ℕ). hash_blocks sha512 s.hash (length y / 128) y) (sym (take-length end))) refl h
 
 pub ends_with : (s : Sha512) {m r : List ℕ} → r ≡ finished s → Holds s m → length m < 2 ^ 64 → r ≡ hash sha512 m
-ends_with s {m} e h l = e ∙ finished-is s m h l
+ends_with s {m} e h l = e ∙ finished_is s m h l

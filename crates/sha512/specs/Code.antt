@@ -11,7 +11,7 @@ use Rattle.sha512.specs.declared.Sha512.{Sha512}
 unfoldable pub nothing_taken : Sha512
 nothing_taken = record { hash = initial512; buffer = replicate 128 0; count = 0 }
 
--- ____ any state
+-- ---- any state
 
 -- how many bytes wait in the buffer, and how many more fill it
 abbrev pub waiting : Sha512 → ℕ
@@ -47,7 +47,7 @@ finished s =
     let end = take (waiting s) s.buffer ++ padding sha512 s.count in
     digest sha512 8 (hash_blocks sha512 s.hash (length end / 128) end)
 
--- ____ the states that calls make
+-- ---- the states that calls make
 
 -- s has taken in the bytes m
 abbrev pub Holds : Sha512 → List ℕ → Type 0

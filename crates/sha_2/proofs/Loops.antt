@@ -14,7 +14,7 @@ use Rattle.sha_2.proofs.Words.{parse_turn, digest_turn, digest-done}
 use Rattle.sha_2.proofs.Rounds.{goes-start, goes_full}
 use Rattle.sha_2.proofs.Blocks.{blocks_turn}
 
--- ____ the words of a block, one a turn
+-- ---- the words of a block, one a turn
 
 pub record Parsing (p : Sha2) (block w : List ℕ) (i : ℕ) : Type 0 where
   pub bound : i ≤ 16
@@ -40,7 +40,7 @@ module _ (p : Sha2) where
       let e : i ≡ 16 = omega (arith, s.bound) in
       (s.size, rw e at s.words)
 
--- ____ the rounds that extend the schedule, eight a turn
+-- ---- the rounds that extend the schedule, eight a turn
 
 pub record First (p : Sha2) (w₀ k : List ℕ) (x : Working) (w : List ℕ) (v : Working) (j : ℕ) : Type 0 where
   pub bound : j ≤ p.further
@@ -76,7 +76,7 @@ module _ (p : Sha2) where
       let g = goes_full p (take 16 w₀) w x v j s.size e s.going in
       (s.size, g.0, g.1)
 
--- ____ the whole blocks of a byte string, one a turn
+-- ---- the whole blocks of a byte string, one a turn
 
 pub record Taking (p : Sha2) (hs m : List ℕ) (n : ℕ) (h : List ℕ) (i : ℕ) : Type 0 where
   pub bound : i ≤ n
@@ -102,7 +102,7 @@ module _ (p : Sha2) where
       let e : i ≡ n = omega (arith, s.bound) in
       s.value ∙ ap (λ (j : ℕ). hash_blocks p hs j m) (e ∙ s.count)
 
--- ____ the words of the digest, one a turn
+-- ---- the words of the digest, one a turn
 
 pub record Digesting (p : Sha2) (hs out : List ℕ) (i : ℕ) : Type 0 where
   pub bound : i ≤ 8

@@ -61,8 +61,8 @@ turned_lt n k x h =
 
 -- the same laws of `rotr`, on words of w bits
 module _ (w : ℕ) where
-  rotr-is : (n k x : ℕ) → w ≡ n + k → x < 2 ^ w → rotr w n x ≡ turned n k x
-  rotr-is n k x e h =
+  rotr_is : (n k x : ℕ) → w ≡ n + k → x < 2 ^ w → rotr w n x ≡ turned n k x
+  rotr_is n k x e h =
       let q : w ≡ k + n = omega arith in
       ap (λ (i : ℕ). rotr i n x) e ∙ rotr_turned n k x (rw q at h)
 
@@ -70,23 +70,23 @@ module _ (w : ℕ) where
   rotr_lt n k x e h =
       let q : w ≡ k + n = omega arith in
       let b : turned n k x < 2 ^ w = rw q (turned_lt n k x (rw q at h)) in
-      subst (λ (i : ℕ). i < 2 ^ w) (sym (rotr-is n k x e h)) b
+      subst (λ (i : ℕ). i < 2 ^ w) (sym (rotr_is n k x e h)) b
 
   rotr-xor : (n k x y : ℕ) → w ≡ n + k → x < 2 ^ w → y < 2 ^ w → rotr w n (bit_xor x y) ≡ bit_xor (rotr w n x) (rotr w n y)
   rotr-xor n k x y e hx hy =
       let q : w ≡ k + n = omega arith in
-      rotr-is n k (bit_xor x y) e (xor_lt w x y hx hy)
+      rotr_is n k (bit_xor x y) e (xor_lt w x y hx hy)
       ∙ turned_xor n k x y (rw q at hx) (rw q at hy)
-      ∙ sym (ap₂ bit_xor (rotr-is n k x e hx) (rotr-is n k y e hy))
+      ∙ sym (ap₂ bit_xor (rotr_is n k x e hx) (rotr_is n k y e hy))
 
   rotr-rotr : (a b c x : ℕ) → w ≡ a + b + c → x < 2 ^ w → rotr w a (rotr w b x) ≡ rotr w (a + b) x
   rotr-rotr a b c x e h =
       let ea : w ≡ a + (b + c) = omega arith in
       let eb : w ≡ b + (c + a) = omega arith in
-      rotr-is a (b + c) (rotr w b x) ea (rotr_lt b (c + a) x eb h)
-      ∙ ap (turned a (b + c)) (rotr-is b (c + a) x eb h)
+      rotr_is a (b + c) (rotr w b x) ea (rotr_lt b (c + a) x eb h)
+      ∙ ap (turned a (b + c)) (rotr_is b (c + a) x eb h)
       ∙ turned_turned a b c x
-      ∙ sym (rotr-is (a + b) c x e h)
+      ∙ sym (rotr_is (a + b) c x e h)
 
   xor_reversed : (x y z : ℕ) → bit_xor (bit_xor x y) z ≡ bit_xor (bit_xor z y) x
   xor_reversed x y z = xor_comm (bit_xor x y) z ∙ ap (λ (i : ℕ). bit_xor z i) (xor_comm x y) ∙ sym (xor_assoc z y x)

@@ -36,9 +36,9 @@ module _ (p : Sha2) where
   counted-more {count} {buffer} {hs} {m} x count' s e =
       e ∙ counts count (length m) (length x) s.counted ∙ ap (λ (n : ℕ). n % 2 ^ 64) (sym (length-append m x))
 
-  pub holds-start : (buffer hs : List ℕ) → length buffer ≡ B → hs ≡ p.initial → Holds p 0 buffer hs []
+  pub holds_start : (buffer hs : List ℕ) → length buffer ≡ B → hs ≡ p.initial → Holds p 0 buffer hs []
   unfolding hash_blocks
-  holds-start buffer hs e eh =
+  holds_start buffer hs e eh =
       record {
         counted = refl;
         room = e;
@@ -50,11 +50,11 @@ module _ (p : Sha2) where
   length_part count buffer pos e = let h = mod-lt count pos in length-take-le (count % B) buffer (omega arith)
 
   -- a piece that does not fill the buffer
-  pub holds-within : {count : ℕ} {buffer hs m buffer' : List ℕ} {count' : ℕ} (x : List ℕ)
+  pub holds_within : {count : ℕ} {buffer hs m buffer' : List ℕ} {count' : ℕ} (x : List ℕ)
       → count' ≡ (count + length x) % 2 ^ 64 → count' % B ≡ count % B + length x → count % B + length x ≤ B
       → buffer' ≡ paste buffer (count % B) x (length x) → length buffer' ≡ B
       → Holds p count buffer hs m → Holds p count' buffer' hs (m ++ x)
-  holds-within {count} {buffer} {hs} {m} {buffer'} {count'} x ec en hn eb lb s =
+  holds_within {count} {buffer} {hs} {m} {buffer'} {count'} x ec en hn eb lb s =
       record {
         counted = counted-more x count' s ec;
         room = lb;
@@ -65,7 +65,7 @@ module _ (p : Sha2) where
       }
 
   -- a piece that fills it: x₁ up to the end of the block, the whole blocks of the rest x₂, and x₃ that is left of it
-  pub holds-beyond : {count : ℕ} {buffer hs m buffer₁ buffer₂ hs₁ hs₂ : List ℕ} {count' : ℕ} (x : List ℕ)
+  pub holds_beyond : {count : ℕ} {buffer hs m buffer₁ buffer₂ hs₁ hs₂ : List ℕ} {count' : ℕ} (x : List ℕ)
       → let room : ℕ = B - count % B in
       let x₁ : List ℕ = take room x in
       let x₂ : List ℕ = from x room in
@@ -75,7 +75,7 @@ module _ (p : Sha2) where
       → hs₁ ≡ hash_blocks p hs (length buffer₁ / B) buffer₁ → hs₂ ≡ hash_blocks p hs₁ (length x₂ / B) x₂
       → buffer₂ ≡ paste buffer₁ 0 x₃ (length x₃) → length buffer₂ ≡ B
       → Holds p count buffer hs m → Holds p count' buffer₂ hs₂ (m ++ x)
-  holds-beyond {count} {buffer} {hs} {m} {buffer₁} {buffer₂} {hs₁} {hs₂} {count'} x pos ec en hr eb₁ lb₁ eh₁ eh₂ eb₂ lb₂ s =
+  holds_beyond {count} {buffer} {hs} {m} {buffer₁} {buffer₂} {hs₁} {hs₂} {count'} x pos ec en hr eb₁ lb₁ eh₁ eh₂ eb₂ lb₂ s =
       let room : ℕ = B - count % B in
       let x₁ : List ℕ = take room x in
       let x₂ : List ℕ = from x room in
@@ -124,11 +124,11 @@ module _ (p : Sha2) where
       }
 
   -- the last bytes with their padding, in the first `end` bytes of t
-  pub holds-end : {count : ℕ} {buffer hs m hs' r : List ℕ} (t : List ℕ) (end : ℕ) → 0 < B → padding p count ≡ padding p (length m)
+  pub holds_end : {count : ℕ} {buffer hs m hs' r : List ℕ} (t : List ℕ) (end : ℕ) → 0 < B → padding p count ≡ padding p (length m)
       → take end t ≡ take (count % B) buffer ++ padding p count → end ≤ length t → end % B ≡ 0
       → hs' ≡ hash_blocks p hs (length (take end t) / B) (take end t) → r ≡ digest p 8 hs' → Holds p count buffer hs m → r ≡ hash p m
   unfolding hash pad
-  holds-end {count} {buffer} {hs} {m} {hs'} {r} t end pos epad et le ee eh er s =
+  holds_end {count} {buffer} {hs} {m} {hs'} {r} t end pos epad et le ee eh er s =
       let x = padding p (length m) in
       let y = take end t in
       let e : y ≡ take (count % B) buffer ++ x = et ∙ ap (λ (l : List ℕ). take (count % B) buffer ++ l) epad in

@@ -4,7 +4,7 @@ use Rattle.std.specs.Prelude.{List, [], ◌∷◌, ◌++◌, ℕ, zero, suc, ◌
 use Rattle.std.specs.Int.Bits.{bit_and, bit_or, bit_xor}
 use Rattle.octets.specs.Numbers.{big_endian, to_big_endian, bytes_at}
 
--- ____ §3.2: operations on words of w bits
+-- ---- §3.2: operations on words of w bits
 
 -- §3.2.1: addition modulo 2^w
 abbrev pub add : ℕ → ℕ → ℕ → ℕ
@@ -22,7 +22,7 @@ shr n x = x / 2 ^ n
 abbrev pub complement : ℕ → ℕ → ℕ
 complement w x = (2 ^ w - 1) - x
 
--- ____ §4.1.2, §4.1.3: functions
+-- ---- §4.1.2, §4.1.3: functions
 
 abbrev pub ch : ℕ → ℕ → ℕ → ℕ → ℕ
 ch w x y z = bit_xor (bit_and x y) (bit_and (complement w x) z)
@@ -67,7 +67,7 @@ bits p = 8 * p.bytes
 abbrev pub block_size : Sha2 → ℕ
 block_size p = 16 * p.bytes
 
--- ____ §5: preprocessing
+-- ---- §5: preprocessing
 
 module _ (p : Sha2) where
   -- §5.1.1, §5.1.2: how many zero bytes follow the byte 128 behind a message of n bytes, so that with the length the last block is full
@@ -87,7 +87,7 @@ module _ (p : Sha2) where
   parse zero block = []
   parse (suc n) block = parse n block ++ (big_endian (bytes_at (n * p.bytes) p.bytes block) ∷ [])
 
--- ____ §6.2.2, §6.4.2: hash computation
+-- ---- §6.2.2, §6.4.2: hash computation
 
 -- the eight working variables
 pub record Working : Type 0 where

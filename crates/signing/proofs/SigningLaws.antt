@@ -35,13 +35,13 @@ taken_in m header rest l e er =
     ap₂ ◌++◌ filled er ∙ append_assoc (take 48 m) (replicate 16 0) (drop 64 m)
 
 -- the lines, from the last
-pub first-is : (key m : Bytes) (begins : Bool) (limit n12 n11 n3 n40 : ℕ) → begins ≡ is_inner_header m 0 → limit ≡ longest_message
+pub first_is : (key m : Bytes) (begins : Bool) (limit n12 n11 n3 n40 : ℕ) → begins ≡ is_inner_header m 0 → limit ≡ longest_message
     → n12 ≡ cond (not begins) 12 0
     → n11 ≡ cond (ltb (length m) 64) 11 n12
     → n3 ≡ cond (ltb limit (length m)) 3 n11
     → n40 ≡ first_else (signing_key_tests key) n3
     → n40 ≡ first_of (sign_tests key m)
-first-is key m begins limit n12 n11 n3 n40 eb el e12 e11 e3 e40 =
+first_is key m begins limit n12 n11 n3 n40 eb el e12 e11 e3 e40 =
     let line12 : n12 ≡ cond (not (is_inner_header m 0)) 12 0 = e12 ∙ ap (λ (b : Bool). cond (not b) 12 0) eb in
     let line11 = e11 ∙ ap (cond (ltb (length m) 64) 11) line12 in
     let line3 = e3 ∙ ap₂ (λ (l n : ℕ). cond (ltb l (length m)) 3 n) el line11 in
@@ -63,7 +63,7 @@ module _ (key m : Bytes) (n : ℕ) (says : n ≡ first_of (sign_tests key m)) wh
         none = none;
       }
 
-  -- ____ signing
+  -- ---- signing
 
   pub left_alone : (n ≡ 0 → ⊥) → Returns (signing_under key) (only_message m) n (only_message m)
   unfolding tests
@@ -79,7 +79,7 @@ module _ (key m : Bytes) (n : ℕ) (says : n ≡ first_of (sign_tests key m)) wh
       lines_return_done (signing_under key) (only_message m) (sign_tests key m) 0 0 refl (sym z ∙ says) refl refl (only_message after)
       (ap only_message stored)
 
-  -- ____ verifying
+  -- ---- verifying
 
   abbrev right : Bytes
   right = signature_under cmac key m

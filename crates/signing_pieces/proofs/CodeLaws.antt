@@ -27,7 +27,7 @@ use Rattle.signing_pieces.specs.Running.{takes, covered, no_message, begun_under
 use Rattle.signing_pieces.specs.Running.{joined_else, signature_from, compared_number, step_with}
 use Rattle.signing_pieces.specs.Clauses.{begin_step, piece_step, sign_number, sign_place, verify_number}
 
--- ____ a begin
+-- ---- a begin
 
 module _ (key : Bytes) where
   abbrev begun_if : Bool → SignStep
@@ -45,7 +45,7 @@ module _ (key : Bytes) where
   unfolding begin_step begun_under
   begin_done l eo em er = er ∙ ap₂ (λ (own : List ℕ) (mac : Mac). step_with (fresh own mac) 0) eo em ∙ sym (ap begun_if (eq-eqb (length key) 16 l))
 
--- ____ a piece
+-- ---- a piece
 
 same_code : {keys keys' : List (List ℕ)} {m m' : Mac} {x x' : List ℕ} → keys ≡ keys' → m ≡ m' → x ≡ x'
     → updated (block_cipher keys) m x ≡ updated (block_cipher keys') m' x'
@@ -71,10 +71,10 @@ module _ (s : SignState) (p : Bytes) where
       let c₂ = e₂ ∙ same_code ek c₁ er in
       ap₂ (after s p) eh c₂ ∙ sym (ap in_header_if (le-ltb (length p) (64 - s.length) l))
 
-  pub behind-is : {keys : List (List ℕ)} {mac : Mac} → keys ≡ expanded_key s.key → mac ≡ updated (block_cipher keys) s.code p
+  pub behind_is : {keys : List (List ℕ)} {mac : Mac} → keys ≡ expanded_key s.key → mac ≡ updated (block_cipher keys) s.code p
       → after s p s.header mac ≡ behind_header s p
   unfolding behind_header
-  behind-is ek em = ap (after s p s.header) (em ∙ same_code ek refl refl)
+  behind_is ek em = ap (after s p s.header) (em ∙ same_code ek refl refl)
 
   abbrev joined_if : Bool → SignState
   joined_if b = cond b (in_header s p) (behind_header s p)
@@ -110,7 +110,7 @@ module _ (s : SignState) (p : Bytes) where
       unfolding joined_by
       taken_behind l ex er = taken (ex ∙ sym (ap joined_if (le-ltb s.length 64 l))) er
 
--- ____ a finish
+-- ---- a finish
 
 module _ (s : SignState) (place : Bytes) where
   abbrev place_if : Bool → Bytes

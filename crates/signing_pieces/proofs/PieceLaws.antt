@@ -12,8 +12,8 @@ use lib.ListN.{length, take, drop, replicate, length-append, take-append-drop}
 use lib.Seq.{paste, take-length, take_all, take_at, take-append-le, take-paste, length-paste, length-take-le}
 use Rattle.cmac.specs.declared.Mac.{Mac}
 use Rattle.cmac.specs.Running as code
-use Rattle.cmac.proofs.Beginning.{nothing-holds}
-use Rattle.cmac.proofs.AnyState.{updated-holds}
+use Rattle.cmac.proofs.Beginning.{nothing_holds}
+use Rattle.cmac.proofs.AnyState.{updated_holds}
 use Rattle.protocol.specs.Bytes.{Bytes}
 use Rattle.protocol.specs.Ciphers.{aes}
 use Rattle.protocol.specs.Signing.{with_signed_flag, with_signature}
@@ -68,7 +68,7 @@ module _ (u : Underway) (b : u.begun ≡ true) (p : Bytes) where
         let mac : Mac = code.updated (aes s.key) s.code p in
         let held : code.Holds mac (aes u.start) (covered u.joined ++ p) =
         subst (λ (k : Bytes). code.Holds (code.updated (aes k) s.code p) (aes u.start) (covered u.joined ++ p)) (sym its.its_key)
-        (updated-holds (aes u.start) s.code (covered u.joined) p (its.chained l)) in
+        (updated_holds (aes u.start) s.code (covered u.joined) p (its.chained l)) in
         stands s.header mac r
         (take_all (length (u.joined ++ p)) s.header (omega arith)
         ∙ sym (take_all at s.header (omega arith))
@@ -149,9 +149,9 @@ module _ (u : Underway) (b : u.begun ≡ true) (p : Bytes) where
             ∙ sym (covered-append (u.joined ++ a) rest (omega arith))
             ∙ ap covered (sym all_is) in
             let one : code.Holds (code.updated E code.nothing_taken (covered header)) E (covered header) =
-            updated-holds E code.nothing_taken [] (covered header) (nothing-holds E) in
+            updated_holds E code.nothing_taken [] (covered header) (nothing_holds E) in
             let held : code.Holds mac E (covered header ++ rest) =
-            updated-holds E (code.updated E code.nothing_taken (covered header)) (covered header) rest one in
+            updated_holds E (code.updated E code.nothing_taken (covered header)) (covered header) rest one in
             let kept : code.Holds mac (aes u.start) (covered header ++ rest) =
             subst (λ (k : Bytes). code.Holds mac (aes k) (covered header ++ rest)) its.its_key held in
             stands header mac lh

@@ -13,7 +13,7 @@ use Rattle.octets.specs.Numbers.{bytes_at, little_endian}
 use Rattle.octets.specs.Same.{same_bytes}
 use Rattle.octets.proofs.BoolLaws.{and_true}
 use Rattle.cmac.specs.Running as code
-use Rattle.cmac.proofs.AnyState.{finished-is}
+use Rattle.cmac.proofs.AnyState.{finished_is}
 use Rattle.protocol.specs.Bytes.{Bytes}
 use Rattle.protocol.specs.Answer.{Answer, done, refused, answer_number, when_done, Test, first_else, first_of}
 use Rattle.protocol.specs.Ciphers.{aes}
@@ -31,13 +31,13 @@ use Rattle.protocol.proofs.CallLaws.{lines_return, lines_return_done, number-lin
 use Rattle.protocol.proofs.FirstOf.{first-append}
 use Rattle.protocol.proofs.Judging.{passes, line}
 use Rattle.protocol.proofs.SignedBytes.{flagged_append, flag-there}
-use Rattle.protocol.proofs.SuiteLaws.{cmac-is}
+use Rattle.protocol.proofs.SuiteLaws.{cmac_is}
 use Rattle.signing_pieces.specs.declared.SignState.{SignState}
 use Rattle.signing_pieces.specs.Running.{takes, covered, no_message, begun_under, joined_by, joined_else, signature_from, compared_number, step_with}
 use Rattle.signing_pieces.specs.Running.{UnderWay, StandsFor}
 use Rattle.signing_pieces.specs.Clauses.{begin_step, piece_step, sign_number, sign_place, verify_number, HandsOn}
 
--- ____ the begin
+-- ---- the begin
 
 begin_left : (key : Bytes) (b : Bool) → eqb (length key) 16 ≡ b
     → (left suite (sign_beginning key) (only_underway not_begun)).underway ≡ cond b (begun_from key) not_begun
@@ -56,9 +56,9 @@ begin_number : (key : Bytes) → answer_number (answer suite (sign_beginning key
 unfolding tests
 begin_number key = number-lines (signing_key_tests key) 0
 
-pub no-message-stands : StandsFor no_message not_begun
+pub no_message-stands : StandsFor no_message not_begun
 unfolding no_message
-no-message-stands =
+no_message-stands =
     record {
       flag = refl;
       count = refl;
@@ -89,21 +89,21 @@ begin_hands_on key = go (eqb (length key) 16) refl
     go false e =
         record {
           number = sym (begin_number key ∙ ap (λ (b : Bool). cond (not b) 40 0) e);
-          stands = rw (begin_left key false e) no-message-stands;
+          stands = rw (begin_left key false e) no_message-stands;
         }
 
--- ____ a piece
+-- ---- a piece
 
 module _ (s : SignState) (u : Underway) (h : StandsFor s u) where
   module _ (p : Bytes) where
-    takes-is : takes s (length p) ≡ piece_fits u p
-    takes-is = ap₂ ◌&&◌ h.flag (ap (λ (n : ℕ). leb (n + length p) longest_message) h.count)
+    takes_is : takes s (length p) ≡ piece_fits u p
+    takes_is = ap₂ ◌&&◌ h.flag (ap (λ (n : ℕ). leb (n + length p) longest_message) h.count)
 
     piece_left : (b : Bool) → takes s (length p) ≡ b → (left suite (sign_piece p) (only_underway u)).underway ≡ cond b (with_piece p u) u
     unfolding tests effect
     piece_left b e =
         ap (λ (x : Bool). (when_done (cond (not x) (refused 3) (done 0)) (λ n. with_underway (with_piece p u) (only_underway u)) (only_underway u)).underway)
-        (sym takes-is ∙ e)
+        (sym takes_is ∙ e)
         ∙ go b
       where
         go : (x : Bool)
@@ -114,7 +114,7 @@ module _ (s : SignState) (u : Underway) (h : StandsFor s u) where
 
     piece_number : (b : Bool) → takes s (length p) ≡ b → answer_number (answer suite (sign_piece p) (only_underway u)) ≡ cond (not b) 3 0
     unfolding tests
-    piece_number b e = number-lines (too_long (not (piece_fits u p)) ∷ []) 0 ∙ ap (λ (x : Bool). cond (not x) 3 0) (sym takes-is ∙ e)
+    piece_number b e = number-lines (too_long (not (piece_fits u p)) ∷ []) 0 ∙ ap (λ (x : Bool). cond (not x) 3 0) (sym takes_is ∙ e)
 
     pub piece_hands_on : (u.begun ≡ true → StandsFor (joined_by s p) (with_piece p u)) → HandsOn (sign_piece p) u (piece_step s p)
     unfolding piece_step
@@ -126,7 +126,7 @@ module _ (s : SignState) (u : Underway) (h : StandsFor s u) where
             record { number = sym (piece_number true e); stands = rw (piece_left true e) (goes_in begun) }
         go false e = record { number = sym (piece_number false e); stands = rw (piece_left false e) h }
 
-  -- ____ the joined bytes, once there are 64
+  -- ---- the joined bytes, once there are 64
 
   module _ (long : 64 ≤ length u.joined) where
     pub long-begun : u.begun ≡ true
@@ -166,18 +166,18 @@ module _ (s : SignState) (u : Underway) (h : StandsFor s u) where
         ∙ take-append-drop 64 m
 
     -- the code has taken in the whole message as it is signed
-    signature-is : signature_from s ≡ signature_of cmac u
+    signature_is : signature_from s ≡ signature_of cmac u
     unfolding signature_from signature_of signature_under covered
-    signature-is =
+    signature_is =
         let way = its in
         ap (λ (k : Bytes). code.finished (aes k) s.code) way.its_key
-        ∙ finished-is (aes u.start) s.code (covered u.joined) (way.chained long)
-        ∙ sym (cmac-is u.start (covered u.joined))
+        ∙ finished_is (aes u.start) s.code (covered u.joined) (way.chained long)
+        ∙ sym (cmac_is u.start (covered u.joined))
 
-  -- ____ the finish
+  -- ---- the finish
 
-  short-is : (eqb s.begun 0 || ltb s.length 64) ≡ ltb (length u.joined) 64
-  short-is = go u.begun refl
+  short_is : (eqb s.begun 0 || ltb s.length 64) ≡ ltb (length u.joined) 64
+  short_is = go u.begun refl
     where
       go : (b : Bool) → u.begun ≡ b → (eqb s.begun 0 || ltb s.length 64) ≡ ltb (length u.joined) 64
       go true e = ap₂ (λ (x : Bool) (n : ℕ). x || ltb n 64) (not-true (eqb s.begun 0) (h.flag ∙ e)) h.count
@@ -188,7 +188,7 @@ module _ (s : SignState) (u : Underway) (h : StandsFor s u) where
   -- 11, 12, and else what is said of a message that is long enough
   joined_else_lem : (n k : ℕ) → (64 ≤ length u.joined → n ≡ k) → joined_else s n ≡ first_else (joined_tests u) k
   joined_else_lem n k same =
-      ap (λ (b : Bool). cond b 11 (cond (not (is_inner_header s.header 0)) 12 n)) short-is ∙ go (ltb (length u.joined) 64) refl
+      ap (λ (b : Bool). cond b 11 (cond (not (is_inner_header s.header 0)) 12 n)) short_is ∙ go (ltb (length u.joined) 64) refl
     where
       go : (b : Bool) → ltb (length u.joined) 64 ≡ b
           → ◌≡◌ {A = ℕ} (cond b 11 (cond (not (is_inner_header s.header 0)) 12 n)) (cond b 11 (cond (not (is_inner_header u.joined 0)) 12 k))
@@ -218,7 +218,7 @@ module _ (s : SignState) (u : Underway) (h : StandsFor s u) where
             let z = eqb-true k 0 e in
             let long = ltb-false (length u.joined) 64 (line ts (passes ts k refl sign_says z) 11) in
             lines_return_done (sign_finishing u) (only_signature place) ts 0 k refl sign_says refl z (only_signature (signature_from s))
-            (ap only_signature (signature-is long))
+            (ap only_signature (signature_is long))
         go false e = lines_return (sign_finishing u) (only_signature place) ts 0 k refl sign_says (eqb-false k 0 e)
 
   -- verifying, where the header is made of bytes
@@ -235,7 +235,7 @@ module _ (s : SignState) (u : Underway) (h : StandsFor s u) where
     right_is long e =
         let size = (its long).room in
         let kept = flag-there s.header (omega arith) (bytes 16) (bytes 17) (bytes 18) (bytes 19) e in
-        signature-is long ∙ ap (signature_under cmac u.start) (flagged_same long kept)
+        signature_is long ∙ ap (signature_under cmac u.start) (flagged_same long kept)
 
     compared_is : 64 ≤ length u.joined → compared_number s ≡ first_of more
     unfolding compared_number

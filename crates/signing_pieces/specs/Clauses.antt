@@ -12,7 +12,7 @@ use Rattle.signing_pieces.specs.declared.SignState.{SignState}
 use Rattle.signing_pieces.specs.declared.SignStep.{SignStep}
 use Rattle.signing_pieces.specs.Running.{takes, begun_under, joined_by, joined_else, signature_from, compared_number, StandsFor, no_message, step_with}
 
--- ____ any state
+-- ---- any state
 
 -- what a begin under the key hands back
 unfoldable pub begin_step : Bytes → SignStep
@@ -38,7 +38,7 @@ pub record Signs (s : SignState) (place : Bytes) (r : SignStep) (place' : Bytes)
   pub hands_back : r ≡ step_with no_message (sign_number s place)
   pub leaves : place' ≡ sign_place s place
 
--- ____ a state that stands for a message
+-- ---- a state that stands for a message
 
 -- the call c answers, and hands the state on
 pub record HandsOn (c : Call) (u : Underway) (r : SignStep) : Type 0 where

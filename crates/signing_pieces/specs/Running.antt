@@ -14,7 +14,7 @@ use Rattle.protocol.specs.Pieces.{Underway}
 use Rattle.signing_pieces.specs.declared.SignState.{SignState}
 use Rattle.signing_pieces.specs.declared.SignStep.{SignStep}
 
--- ____ any state
+-- ---- any state
 
 -- n bytes more go in
 abbrev pub takes : SignState → ℕ → Bool
@@ -74,7 +74,7 @@ compared_number s = cond (not (is_signed s.header)) 24 (cond (not (same_bytes (s
 abbrev pub step_with : SignState → ℕ → SignStep
 step_with s n = record { state = s; number = n; spare = 0 }
 
--- ____ the states that calls make
+-- ---- the states that calls make
 
 -- of a message under way: its key, its first bytes, and, once the header is whole, the code over what is there
 pub record UnderWay (s : SignState) (key joined : Bytes) : Type 0 where

@@ -17,21 +17,21 @@ pub record WritesTrace (ok : Bool) (b room : Bytes) (p n : ℕ) (room' : Bytes) 
 pub record ReadsHead (r : FileReading) (n edition edition' dialect dialect' cipher cipher' : ℕ) : Type 0 where
   pub number : n ≡ file_number r
   pub its_edition : edition' ≡ edition_to r edition
-  pub its-dialect : dialect' ≡ dialect_to r dialect
-  pub its-cipher : cipher' ≡ cipher_to r cipher
+  pub its_dialect : dialect' ≡ dialect_to r dialect
+  pub its_cipher : cipher' ≡ cipher_to r cipher
 
 pub record ReadsRecord (r : Reading) (n at at' kind kind' from from' payload payload' len len' : ℕ) : Type 0 where
   pub number : n ≡ reading_number r
-  pub its-place : at' ≡ next_to r at
-  pub its-kind : kind' ≡ kind_to r kind
+  pub its_place : at' ≡ next_to r at
+  pub its_kind : kind' ≡ kind_to r kind
   pub its_direction : from' ≡ from_server_to r from
-  pub its-payload : payload' ≡ payload_to r payload
-  pub its-length : len' ≡ length_to r len
+  pub its_payload : payload' ≡ payload_to r payload
+  pub its_length : len' ≡ length_to r len
 
 -- of the trace f
 pub record RescuesTrace (f : Bytes) (n : ℕ) (room room' : Bytes) (gaps gaps' : List ℕ) (written written' count count' : ℕ) : Type 0 where
   pub number : n ≡ rescue_number (rescue_answer f (length room) (length gaps))
   pub bytes : room' ≡ place_after (roomy f (length room) (length gaps)) (rescued_file f) room
   pub listed : gaps' ≡ place_after (roomy f (length room) (length gaps)) (gaps_of f) gaps
-  pub its-size : written' ≡ written_to (rescue_answer f (length room) (length gaps)) written
-  pub its-count : count' ≡ gaps_to (rescue_answer f (length room) (length gaps)) count
+  pub its_size : written' ≡ written_to (rescue_answer f (length room) (length gaps)) written
+  pub its_count : count' ≡ gaps_to (rescue_answer f (length room) (length gaps)) count

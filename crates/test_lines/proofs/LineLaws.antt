@@ -8,14 +8,14 @@ use Rattle.octets.proofs.NumberLaws.{big_append}
 use Rattle.octets.proofs.SameLaws.{same_equal}
 use Rattle.test_lines.specs.Lines.{digit, pair, first_byte, bytes_of, behind, next_word, Reads, begins}
 
--- ____ one element, and those behind it
+-- ---- one element, and those behind it
 
 from : (l : List ℕ) (i : ℕ) → i < length l → drop i l ≡ get_or l i 0 ∷ drop (i + 1) l
 from l i h = drop-cons l i 0 h ∙ ap (λ (k : ℕ). get_or l i 0 ∷ drop k l) (sym (add-one i))
 
--- ____ two tests
+-- ---- two tests
 
--- ____ the place behind a byte
+-- ---- the place behind a byte
 
 module _ (b : ℕ) (l : List ℕ) (i : ℕ) where
   pub behind-here : i < length l → get_or l i 0 ≡ b → i + 1 ≡ i + behind b (drop i l)
@@ -55,7 +55,7 @@ behind_between b l i r h e =
     let q : 0 < behind b (drop i l) = rw (from l i h) (behind-some b (get_or l i 0) (drop (i + 1) l)) in
     (omega arith, omega (arith, behind-within b (drop i l), length-drop i l))
 
--- ____ the bytes of a word
+-- ---- the bytes of a word
 
 pub first-at : (l : List ℕ) (i : ℕ) → i + 2 ≤ length l → pair (get_or l i 0) (get_or l (i + 1) 0) ≡ first_byte (drop i l)
 unfolding first_byte
@@ -182,7 +182,7 @@ module _ {line out out' : List ℕ} {at len next : ℕ} (s : Reads line at out o
       let l : length (take (length out) w) ≡ len = length-take (length out) w ∙ sym s.count in
       ap (take len) s.bytes ∙ take_at (take (length out) w) (drop (length w) out) len l
 
--- ____ digits
+-- ---- digits
 
 module _ (b : ℕ) where
   pub digit-decimal : (leb 48 b && leb b 57) ≡ true → (48 ≤ b) × (b - 48 ≡ digit b)
@@ -206,7 +206,7 @@ module _ {high low : ℕ} (x y : ℕ) (eh : high ≡ digit x) (el : low ≡ digi
   unfolding pair
   pair-none e = let t : (ltb (digit x) 16 && ltb (digit y) 16) ≡ false = rw (eh, el) at e in sym (rw t)
 
--- ____ numbers
+-- ---- numbers
 
 -- before a turn of the loop over the first len bytes of b: n is the number that i of them write
 pub record Counting (b : List ℕ) (len n i : ℕ) : Type 0 where
@@ -240,11 +240,11 @@ counting_end {line} {out} {b} {at} {len} {next} {n} {i} s h r =
     let q : i ≡ len = omega (arith, s.bound) in
     s.value ∙ ap (λ (l : List ℕ). big_endian l % 2 ^ 64) (ap (λ (k : ℕ). take k b) q ∙ reads_word r)
 
--- ____ equality
+-- ---- equality
 
 -- a line that is not longer than the name
-pub begins-not : (line name : List ℕ) → length line ≤ length name → false ≡ begins line name
-begins-not line name h = sym (rw (le-ltb (length name) (length line) h))
+pub begins_not : (line name : List ℕ) → length line ≤ length name → false ≡ begins line name
+begins_not line name h = sym (rw (le-ltb (length name) (length line) h))
 
 pub begins_if : {r : Bool} (line name : List ℕ) → length name < length line → r ≡ same_bytes (take (length name) line) name → r ≡ begins line name
 begins_if line name h e = e ∙ sym (rw (lt-ltb (length name) (length line) h))
@@ -285,22 +285,22 @@ and_assoc : (a b c : Bool) → (a && b && c) ≡ (a && (b && c))
 and_assoc true b c = refl
 and_assoc false b c = refl
 
-same-append : (a b c d : List ℕ) → length a ≡ length b → (same_bytes a b && same_bytes c d) ≡ same_bytes (a ++ c) (b ++ d)
+same_append : (a b c d : List ℕ) → length a ≡ length b → (same_bytes a b && same_bytes c d) ≡ same_bytes (a ++ c) (b ++ d)
 unfolding same_bytes
-same-append [] [] c d e = refl
-same-append [] (y ∷ b) c d e = absurd (omega arith)
-same-append (x ∷ a) [] c d e = absurd (omega arith)
-same-append (x ∷ a) (y ∷ b) c d e =
+same_append [] [] c d e = refl
+same_append [] (y ∷ b) c d e = absurd (omega arith)
+same_append (x ∷ a) [] c d e = absurd (omega arith)
+same_append (x ∷ a) (y ∷ b) c d e =
     let q : length a ≡ length b = omega arith in
-    and_assoc (eqb x y) (same_bytes a b) (same_bytes c d) ∙ ap (λ (t : Bool). eqb x y && t) (same-append a b c d q)
+    and_assoc (eqb x y) (same_bytes a b) (same_bytes c d) ∙ ap (λ (t : Bool). eqb x y && t) (same_append a b c d q)
 
 -- n bytes of one, and the k behind them of another
-pub same-joined : {p q : Bool} (n k : ℕ) (m a b : List ℕ) → length m ≡ n + k → length a ≡ n + k → length b ≡ n + k → p ≡ same_bytes (take n m) (take n a)
+pub same_joined : {p q : Bool} (n k : ℕ) (m a b : List ℕ) → length m ≡ n + k → length a ≡ n + k → length b ≡ n + k → p ≡ same_bytes (take n m) (take n a)
     → q ≡ same_bytes (take k (drop n m)) (take k (drop n b)) → (p && q) ≡ same_bytes m (take n a ++ drop n b)
-same-joined n k m a b lm la lb ep eq =
+same_joined n k m a b lm la lb ep eq =
     let l : length (take n m) ≡ length (take n a) = length-take n m ∙ ap (min n) (lm ∙ sym la) ∙ sym (length-take n a) in
     let rm : take k (drop n m) ≡ drop n m = take_all k (drop n m) (omega (arith, length-drop n m)) in
     let rb : take k (drop n b) ≡ drop n b = take_all k (drop n b) (omega (arith, length-drop n b)) in
     ap₂ ◌&&◌ ep (eq ∙ ap₂ same_bytes rm rb)
-    ∙ same-append (take n m) (take n a) (drop n m) (drop n b) l
+    ∙ same_append (take n m) (take n a) (drop n m) (drop n b) l
     ∙ ap (λ (l : List ℕ). same_bytes l (take n a ++ drop n b)) (take-append-drop n m)

@@ -49,7 +49,7 @@ fn byte_at(line: &[u8], at: usize) -> u16
 }
 
 // How many bytes a word wrote, and where the next word begins.
-#[derive(Drop)]
+#[derive(Clone, Copy)]
 pub struct Word {
     pub len: usize,
     pub next: usize,
@@ -96,7 +96,7 @@ pub fn after_space(line: &[u8], at: usize) -> usize
 }
 
 // A number of at most eight bytes, and where the next word begins.
-#[derive(Drop)]
+#[derive(Clone, Copy)]
 pub struct Number {
     pub value: u64,
     pub next: usize,

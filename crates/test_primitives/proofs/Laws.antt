@@ -36,8 +36,8 @@ module _ (b : Bool) where
   pub seals : (body tag text text' place place' : List ℕ) → b ≡ true → text' ≡ body → place' ≡ tag → Seals b body tag text text' place place' 0
   seals body tag text text' place place' t e d = record { number = rw t; bytes = rw t e; tagged = rw t d }
 
-  pub seals-not : (body tag text place : List ℕ) → b ≡ false → Seals b body tag text text place place 40
-  seals-not body tag text place f = record { number = rw f; bytes = rw f; tagged = rw f }
+  pub seals_not : (body tag text place : List ℕ) → b ≡ false → Seals b body tag text text place place 40
+  seals_not body tag text place f = record { number = rw f; bytes = rw f; tagged = rw f }
 
   pub opens : (decrypted : Option (List ℕ)) (text text' : List ℕ) (flag flag' : ℕ) (r : Bool) → b ≡ true → text' ≡ get_or decrypted text
       → r ≡ is_some decrypted → flag' ≡ bit r → Opens b decrypted text text' flag flag' 0
@@ -55,7 +55,7 @@ writes_value {v} {out} n value l e w =
       bytes = w.bytes ∙ ap₂ (λ (k : ℕ) (x : List ℕ). cond (eqb (length out) k) x out) l e;
     }
 
--- ____ the tests of lengths
+-- ---- the tests of lengths
 
 pub three : (a b c : Bool) → (a && b && c) ≡ true → (a ≡ true) × (b ≡ true) × (c ≡ true)
 three a b c e =

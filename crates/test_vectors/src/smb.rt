@@ -60,7 +60,7 @@ pub fn derive(line: &[u8], count: usize) {
 }
 
 // What sealing and opening are lent besides the message.
-#[derive(Drop)]
+#[derive(Clone, Copy)]
 struct Lent {
     role: u32,
     dialect: u16,

@@ -13,7 +13,7 @@ use Rattle.trace_format.specs.Format.{bad_file_head, read_file_head_by, read_fil
 use Rattle.trace_format.specs.Format.{read_head, size_in, readable}
 use Rattle.trace_format.specs.Format.{Reading, found, end, unreadable, read_at, after_head, read_in_by, read_in}
 
--- ____ the file head
+-- ---- the file head
 
 pub file-short : (f : Bytes) → length f < 4 → bad_file_head ≡ read_file_head f
 unfolding read_file_head_by good_file_head
@@ -34,16 +34,16 @@ module _ (f : Bytes) (long : 4 ≤ length f) (h : ℕ) (is : h ≡ head_in f) wh
   file-good l e n =
       rw (file-known true (ap (ltb 0) (sym e) ∙ lt-ltb 0 l (omega arith))) (ap (λ (i : ℕ). file_head (edition_in i) (dialect_in i) (cipher_in i)) is)
 
--- ____ the head of a record
+-- ---- the head of a record
 
 pub head-short : (e : Edition) (s : Bytes) → length s < 4 → bad_head ≡ read_head e s
 unfolding read_head good_head
 head-short e s h = rw (lt-leb 4 (length s) h)
 
 module _ (e : Edition) (s : Bytes) (long : 4 ≤ length s) (h : ℕ) (is : h ≡ head_in s) where
-  head-is : (b : Bool) → (eqb (h % e.unit) 0 && admitted e (kind_in h) (length_in e h)) ≡ b → good_head e s ≡ b
+  head_is : (b : Bool) → (eqb (h % e.unit) 0 && admitted e (kind_in h) (length_in e h)) ≡ b → good_head e s ≡ b
   unfolding good_head
-  head-is b t = rw (le-leb 4 (length s) long) (ap (λ (i : ℕ). eqb (i % e.unit) 0 && admitted e (kind_in i) (length_in e i)) (sym is) ∙ t)
+  head_is b t = rw (le-leb 4 (length s) long) (ap (λ (i : ℕ). eqb (i % e.unit) 0 && admitted e (kind_in i) (length_in e i)) (sym is) ∙ t)
 
   -- as the code judges it: by the edition's unit, and whether kind and length are admitted
   module _ (unit : ℕ) (its : unit ≡ e.unit) (admits : Bool) (said : admits ≡ admitted e (kind_in h) (h % 268435456 / unit)) where
@@ -54,16 +54,16 @@ module _ (e : Edition) (s : Bytes) (long : 4 ≤ length s) (h : ℕ) (is : h ≡
 
     pub head_bad : not (eqb (h % unit) 0 && admits) ≡ true → bad_head ≡ read_head e s
     unfolding read_head
-    head_bad t = rw (head-is false (judged ∙ not-true _ t))
+    head_bad t = rw (head_is false (judged ∙ not-true _ t))
 
     pub head-good : not (eqb (h % unit) 0 && admits) ≡ false → head (kind_in h) (from_server_in h) (h % 268435456 / unit) ≡ read_head e s
     unfolding read_head
     head-good t =
-        rw (head-is true (judged ∙ not-false _ t))
+        rw (head_is true (judged ∙ not-false _ t))
         (ap (λ (u : ℕ). head (kind_in h) (from_server_in h) (h % 268435456 / u)) its
         ∙ ap (λ (i : ℕ). head (kind_in i) (from_server_in i) (length_in e i)) is)
 
--- ____ a record, from its head
+-- ---- a record, from its head
 
 picked : (b : Bool) (k' n' k n : ℕ) (d' d : Bool) → cond b (head k' d' n') bad_head ≡ head k d n → (b ≡ true) × (k' ≡ k) × (d' ≡ d) × (n' ≡ n)
 picked true k' n' k n d' d e = (refl, cc, cc, cc)
@@ -121,7 +121,7 @@ module _ (e : Edition) (f : Bytes) (p : ℕ) where
           let q : p + 4 + n ≡ p + size_in e (drop p f) = omega arith in
           rw (lt-leb (length f) p inside, h.good, le-leb (size_in e (drop p f)) (length (drop p f)) (omega arith), q, ← h.kind, ← h.from_server_is, ← h.size)
 
--- ____ a record that was read
+-- ---- a record that was read
 
 pub readable-good : (e : Edition) (s : Bytes) → readable e s ≡ true → (good_head e s ≡ true) × (size_in e s ≤ length s)
 unfolding readable
@@ -149,7 +149,7 @@ chosen false false k' q' n' r' k q n r d' d e = absurd (let z : ◌≡◌ {A = �
 
 -- its payload is n bytes from q on, inside the file, of a length that its kind admits; the next record begins at r
 pub record Was (e : Edition) (f : Bytes) (p k q n r : ℕ) : Type 0 where
-  pub is-readable : readable e (drop p f) ≡ true
+  pub is_readable : readable e (drop p f) ≡ true
   pub kind : kind_in (head_in (drop p f)) ≡ k
   pub size : length_in e (head_in (drop p f)) ≡ n
   pub admits : admitted e k n ≡ true
@@ -173,7 +173,7 @@ was e f p k d q n r t =
     let z = c.3 in
     let y = c.4 in
     record {
-      is-readable = c.0;
+      is_readable = c.0;
       kind = c.1;
       size = c.3;
       admits = ap₂ (admitted e) (sym c.1) (sym c.3) ∙ good_admits e s g.0;
@@ -182,9 +182,9 @@ was e f p k d q n r t =
       inside = omega arith;
     }
 
-not-end-of : (b : Bool) (x : Reading) → (end ≡ x → ⊥) → end ≡ cond b x unreadable → ⊥
-not-end-of true x n e = n e
-not-end-of false x n e = let z : ◌≡◌ {A = ℕ} 0 1 = cc in absurd (omega arith)
+not_end-of : (b : Bool) (x : Reading) → (end ≡ x → ⊥) → end ≡ cond b x unreadable → ⊥
+not_end-of true x n e = n e
+not_end-of false x n e = let z : ◌≡◌ {A = ℕ} 0 1 = cc in absurd (omega arith)
 
 not_found : (k : ℕ) (d : Bool) (q n r : ℕ) → end ≡ found k d q n r → ⊥
 not_found k d q n r e = let z : ◌≡◌ {A = ℕ} 0 1 = cc in absurd (omega arith)
@@ -195,7 +195,7 @@ unfolding read_at
 not_end e f p h t =
     let s = drop p f in
     let r = found (kind_in (head_in s)) (from_server_in (head_in s)) (p + 4) (length_in e (head_in s)) (p + size_in e s) in
-    not-end-of (readable e s) r (not_found _ _ _ _ _) (t ∙ ap (λ (b : Bool). cond b end (cond (readable e s) r unreadable)) (lt-leb (length f) p h))
+    not_end-of (readable e s) r (not_found _ _ _ _ _) (t ∙ ap (λ (b : Bool). cond b end (cond (readable e s) r unreadable)) (lt-leb (length f) p h))
 
 -- a record of kind 3 has 24 bytes
 pub admitted_24 : (e : Edition) (k n : ℕ) → admitted e k n ≡ true → 3 ≤ k → 24 ≤ n
@@ -207,13 +207,13 @@ admitted_24 e k n t h =
     let z = eqb-true n 24 same in
     omega arith
 
--- ____ a record of a whole file
+-- ---- a record of a whole file
 
 module _ (f : Bytes) (p : ℕ) where
   pub in_bad : bad_file_head ≡ read_file_head f → unreadable ≡ read_in f p
   unfolding read_in_by
   in_bad t = ap (λ (h : FileReading). after_head edition_of h f p) t
 
-  pub in-good : (e d c : ℕ) → file_head e d c ≡ read_file_head f → (r : Reading) → r ≡ read_at (edition_of e) f p → r ≡ read_in f p
+  pub in_good : (e d c : ℕ) → file_head e d c ≡ read_file_head f → (r : Reading) → r ≡ read_at (edition_of e) f p → r ≡ read_in f p
   unfolding read_in_by
-  in-good e d c t r q = q ∙ ap (λ (h : FileReading). after_head edition_of h f p) t
+  in_good e d c t r q = q ∙ ap (λ (h : FileReading). after_head edition_of h f p) t

@@ -10,7 +10,7 @@ Bytes = List ℕ
 abbrev pub unreadable_number : ℕ
 unreadable_number = 36
 
--- ____ editions
+-- ---- editions
 
 -- what an edition fixes: the weight of the length's lowest bit, below which are the zero bits, and the longest payload
 pub record Edition : Type 0 where
@@ -33,7 +33,7 @@ no_edition = record { unit = 1; longest = 0 }
 abbrev pub Editions : Type 0
 Editions = ℕ → Edition
 
--- "new readers read both editions"
+-- "New readers read both editions"
 abbrev pub edition_of : Editions
 edition_of n = cond (eqb n 1) edition1 (cond (eqb n 2) edition2 no_edition)
 
@@ -47,7 +47,7 @@ known_to editions n = ltb 0 (editions n).longest
 abbrev pub known : ℕ → Bool
 known = known_to edition_of
 
--- ____ the file head, which is the first four bytes: "File head, 32 bits: edition 8 (value 1), dialect 16, cipher 8."
+-- ---- the file head, which is the first four bytes: "File head, 32 bits: edition 8 (value 1), dialect 16, cipher 8."
 
 -- the number in the first four bytes
 abbrev pub head_in : Bytes → ℕ
@@ -79,7 +79,7 @@ read_file_head_by editions f =
 abbrev pub read_file_head : Bytes → FileReading
 read_file_head = read_file_head_by edition_of
 
--- ____ the record head: "Record head, 32 bits: kind 3, direction 1 (1 is from the server), length 21, zero 7; then the payload.", and in
+-- ---- the record head: "Record head, 32 bits: kind 3, direction 1 (1 is from the server), length 21, zero 7; then the payload.", and in
 -- edition 2 "length 24 and zero 4"
 
 abbrev pub kind_in : ℕ → ℕ
@@ -109,7 +109,7 @@ pub data HeadReading : Type 0 where
 unfoldable pub read_head : Edition → Bytes → HeadReading
 read_head e s = cond (good_head e s) (head (kind_in (head_in s)) (from_server_in (head_in s)) (length_in e (head_in s))) bad_head
 
--- ____ a record
+-- ---- a record
 
 -- the bytes of the record that begins s
 abbrev pub size_in : Edition → Bytes → ℕ

@@ -9,7 +9,7 @@ pub record Record : Type 0 where
   pub from_server : Bool
   pub payload : Bytes
 
--- ____ reading
+-- ---- reading
 
 -- the record that begins s
 unfoldable pub record_in : Edition → Bytes → Record
@@ -32,7 +32,7 @@ read_some (suc n) e s = cond (readable e s) (before (record_in e s) (read_some n
 abbrev pub read_all : Edition → Bytes → Contents
 read_all e s = read_some (length s) e s
 
--- ____ writing
+-- ---- writing
 
 -- "a new writer writes edition 2 only"
 abbrev pub written_edition : ℕ

@@ -5,7 +5,7 @@ use Rattle.trace_format.specs.Format.{unreadable_number, FileReading, file_head,
 use Rattle.trace_format.specs.Records.{bit}
 use Rattle.trace_writer.specs.Answers.{Written, up_to, refused}
 
--- ____ of what was written
+-- ---- of what was written
 
 abbrev pub written_number : Written → ℕ
 written_number (up_to n) = 0
@@ -16,7 +16,7 @@ abbrev pub place_behind : Written → ℕ → ℕ
 place_behind (up_to n) h = n
 place_behind (refused n) h = h
 
--- ____ of a file head that was read
+-- ---- of a file head that was read
 
 abbrev pub file_number : FileReading → ℕ
 file_number (file_head e d c) = 0
@@ -34,7 +34,7 @@ abbrev pub cipher_to : FileReading → ℕ → ℕ
 cipher_to (file_head e d c) h = c
 cipher_to bad_file_head h = h
 
--- ____ of a record that was read: at the end the length of the payload is 0, and no payload has that length
+-- ---- of a record that was read: at the end the length of the payload is 0, and no payload has that length
 
 abbrev pub reading_number : Reading → ℕ
 reading_number (found k d p n q) = 0

@@ -18,7 +18,7 @@ use Rattle.trace_reader.specs.declared.Read.TheVariants as at
 use Rattle.trace_format.proofs.FormatLaws.{Was, readable-good}
 use Rattle.trace_rescue.specs.Rescue.{begins_message, is_found, passed}
 
--- ____ what a reading says of the bytes
+-- ---- what a reading says of the bytes
 
 ended : (a b : Bool) (x : Reading) (k p n q : ℕ) (d : Bool) → (a ≡ true → b ≡ false) → (x ≡ end) ⊎ (x ≡ unreadable)
     → cond a end (cond b (found k d p n q) unreadable) ≡ x → b ≡ false
@@ -64,12 +64,12 @@ module _ (e : Edition) (f : Bytes) (p : ℕ) where
         let len : next - start ≡ n = omega arith in
         let payload =
         ap₂ (λ (i : ℕ) (x : Bytes). begins_message (take i x)) (len ∙ sym w.size) (ap (λ (i : ℕ). drop i f) from ∙ sym (drop-drop 4 p f)) in
-        rw w.is-readable (ap₂ (λ (i : ℕ) (x : Bool). leb i 2 && x) (sym w.kind) (t ∙ payload))
+        rw w.is_readable (ap₂ (λ (i : ℕ) (x : Bool). leb i 2 && x) (sym w.kind) (t ∙ payload))
 
     pub the_size : 4 + n ≡ cond (readable e (drop p f)) (size_in e (drop p f)) 0
-    the_size = rw w.is-readable (ap (λ (i : ℕ). 4 + i) (sym w.size))
+    the_size = rw w.is_readable (ap (λ (i : ℕ). 4 + i) (sym w.size))
 
--- ____ the search
+-- ---- the search
 
 pass_at : (e : Edition) (s xs : Bytes) (x : ℕ) (t : Bool) → s ≡ x ∷ xs → is_found e s ≡ t → passed e s ≡ cond t 0 (passed e xs + 1)
 unfolding passed

@@ -15,7 +15,7 @@ use Rattle.trace_rescue.specs.Rescue.{is_found, passed, Piece, kept, dropped, pi
 use Rattle.trace_rescue.specs.Answers.{Cuts, Measured, Fits, Writes}
 use Rattle.trace_rescue.specs.declared.cut.Cut.{Cut}
 
--- ____ a piece has a byte, and is inside
+-- ---- a piece has a byte, and is inside
 
 one_more : (t : Bool) (k l : ℕ) → k ≤ l → cond t 0 (k + 1) ≤ suc l
 one_more true k l h = omega arith
@@ -49,7 +49,7 @@ bounds e s false q h =
 pub piece_bounds : (e : Edition) (s : Bytes) → 0 < length s → (1 ≤ piece_length e s) × (piece_length e s ≤ length s)
 piece_bounds e s h = bounds e s (readable e s) refl h
 
--- ____ the piece at a place, as the code cuts it
+-- ---- the piece at a place, as the code cuts it
 
 module _ (e : Edition) (f : Bytes) (p : ℕ) (here : p < length f) (n : ℕ) (says : n ≡ cond (readable e (drop p f)) (size_in e (drop p f)) 0) where
   some_left : 0 < length (drop p f)
@@ -58,15 +58,15 @@ module _ (e : Edition) (f : Bytes) (p : ℕ) (here : p < length f) (n : ℕ) (sa
   size_says : (t : Bool) → readable e (drop p f) ≡ t → n ≡ cond t (size_in e (drop p f)) 0
   size_says t q = says ∙ ap (λ (u : Bool). cond u (size_in e (drop p f)) 0) q
 
-  is-kept : (n ≡ 0 → ⊥) → readable e (drop p f) ≡ true
-  is-kept h = by (readable e (drop p f)) refl
+  is_kept : (n ≡ 0 → ⊥) → readable e (drop p f) ≡ true
+  is_kept h = by (readable e (drop p f)) refl
     where
       by : (t : Bool) → readable e (drop p f) ≡ t → t ≡ true
       by true q = refl
       by false q = absurd (h (size_says false q))
 
-  is-dropped : n ≡ 0 → readable e (drop p f) ≡ false
-  is-dropped z = by (readable e (drop p f)) refl
+  is_dropped : n ≡ 0 → readable e (drop p f) ≡ false
+  is_dropped z = by (readable e (drop p f)) refl
     where
       by : (t : Bool) → readable e (drop p f) ≡ t → t ≡ false
       by true q = let s = size_says true q in absurd (omega arith)
@@ -81,12 +81,12 @@ module _ (e : Edition) (f : Bytes) (p : ℕ) (here : p < length f) (n : ℕ) (sa
       record { good = sym q; len = em; some = omega arith; inside = omega arith }
 
   pub cut_kept : (n ≡ 0 → ⊥) → Cuts e f p (record { good = true; len = n })
-  cut_kept h = let q = is-kept h in cuts true n q (size_says true q ∙ sym (kept-length e (drop p f) q))
+  cut_kept h = let q = is_kept h in cuts true n q (size_says true q ∙ sym (kept-length e (drop p f) q))
 
   module _ (m : ℕ) (after : m ≡ passed e (drop (p + 1) f)) (z : n ≡ 0) where
     pub cut_dropped : Cuts e f p (record { good = false; len = m + 1 })
     cut_dropped =
-        let q = is-dropped z in
+        let q = is_dropped z in
         cuts false (m + 1) q
         (ap (λ (i : ℕ). i + 1) (after ∙ ap (passed e) (sym (drop-drop 1 p f))) ∙ sym (dropped-length e (drop p f) q))
 
@@ -96,7 +96,7 @@ module _ (e : Edition) (f : Bytes) (p : ℕ) (here : p < length f) (n : ℕ) (sa
         let l = length-drop (p + 1) f in
         omega arith
 
--- ____ the list of pieces
+-- ---- the list of pieces
 
 pieces_none : (m : ℕ) (e : Edition) → pieces_some m e [] ≡ []
 unfolding pieces_some
@@ -131,7 +131,7 @@ length-gap_numbers p [] = refl
 length-gap_numbers p (kept b ∷ ps) = length-gap_numbers (p + length b) ps
 length-gap_numbers p (dropped b ∷ ps) = let h = length-gap_numbers (p + length b) ps in omega arith
 
--- ____ a turn of either pass: the piece c at place p
+-- ---- a turn of either pass: the piece c at place p
 
 module _ (e : Edition) (f : Bytes) (p : ℕ) (here : p < length f) (c : Cut) (cut : Cuts e f p c) where
   abbrev n : ℕ
@@ -190,7 +190,7 @@ module _ (e : Edition) (f : Bytes) (p : ℕ) (here : p < length f) (c : Cut) (cu
 pub no_pieces : (e : Edition) (f : Bytes) (p : ℕ) → length f ≤ p → pieces e (drop p f) ≡ []
 no_pieces e f p h = ap (pieces e) (drop_of_length-le f {i = p} h) ∙ pieces_none 0 e
 
--- ____ the first pass
+-- ---- the first pass
 
 module _ (e : Edition) (f : Bytes) where
   -- it has come to p, with so many bytes and gaps
@@ -240,7 +240,7 @@ module _ (e : Edition) (f : Bytes) where
           let o = cut.some in
           record { high = i; small = omega arith; few = omega arith; bytes_all = omega arith; gaps_all = omega arith }
 
--- ____ the second pass, with what is lent
+-- ---- the second pass, with what is lent
 
 module _ (e : Edition) (f room₀ list₀ : Bytes) where
   abbrev all : Bytes

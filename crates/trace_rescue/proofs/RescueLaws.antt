@@ -17,10 +17,10 @@ use Rattle.trace_rescue.specs.Answers.{Measured, Fits, Writes, Rescues}
 use Rattle.trace_rescue.specs.declared.Sizes.{Sizes}
 use Rattle.trace_rescue.specs.declared.Rescuing.TheVariants.{Done, Refused}
 
--- ____ the room
+-- ---- the room
 
-pub no-head : (k g n m : ℕ) → n < 4 → false ≡ (leb (4 + k) n && leb (2 * g) m)
-no-head k g n m h = rw (lt-leb (4 + k) n (omega arith))
+pub no_head : (k g n m : ℕ) → n < 4 → false ≡ (leb (4 + k) n && leb (2 * g) m)
+no_head k g n m h = rw (lt-leb (4 + k) n (omega arith))
 
 pub both_fit : (k g n m : ℕ) → 4 ≤ n → (leb k (n - 4) && leb g (m / 2)) ≡ (leb (4 + k) n && leb (2 * g) m)
 both_fit k g n m h =
@@ -28,7 +28,7 @@ both_fit k g n m h =
     (leb_same k (n - 4) (4 + k) n (λ i. omega arith) (λ i. omega arith))
     (leb_same g (m / 2) (2 * g) m (λ i. omega arith) (λ i. omega arith))
 
--- ____ the file head
+-- ---- the file head
 
 told : (t : Bool) (e' d' c' e d c : ℕ) → cond t (file_head e' d' c') bad_file_head ≡ file_head e d c → (t ≡ true) × (e' ≡ e)
 told true e' d' c' e d c q = (refl, cc)
@@ -39,16 +39,16 @@ told_bad true e' d' c' q = absurd (let z : ◌≡◌ {A = ℕ} 0 1 = cc in omega
 told_bad false e' d' c' q = refl
 
 module _ (f room list : Bytes) where
-  not-roomy : roomy f (length room) (length list) ≡ false → Rescues f room list (Refused 36) room list
-  not-roomy t = record { answer = rw t; bytes = rw t; gaps = rw t }
+  not_roomy : roomy f (length room) (length list) ≡ false → Rescues f room list (Refused 36) room list
+  not_roomy t = record { answer = rw t; bytes = rw t; gaps = rw t }
 
   -- whether there is room, once it is known whether there is a file head
-  abbrev with-head : Bool → Bool
-  with-head t = t && (leb (length (rescued_file f)) (length room) && leb (2 * gap_count (pieces_of f)) (length list))
+  abbrev with_head : Bool → Bool
+  with_head t = t && (leb (length (rescued_file f)) (length room) && leb (2 * gap_count (pieces_of f)) (length list))
 
   pub head-unreadable : bad_file_head ≡ read_file_head f → Rescues f room list (Refused 36) room list
   unfolding read_file_head_by
-  head-unreadable t = not-roomy (ap with-head (told_bad (good_file_head edition_of f) _ _ _ (sym t)))
+  head-unreadable t = not_roomy (ap with_head (told_bad (good_file_head edition_of f) _ _ _ (sym t)))
 
   module _ (e d c : ℕ) (t : file_head e d c ≡ read_file_head f) where
     abbrev ps : List Piece
@@ -72,16 +72,16 @@ module _ (f room list : Bytes) where
         length-append (take 4 f) (kept_bytes ps) ∙ ap (λ (i : ℕ). i + length (kept_bytes ps)) l
 
     module _ (s : Sizes) (is : Measured ps s) (fits : Bool) (says : fits ≡ (leb (4 + s.kept) (length room) && leb (2 * s.gaps) (length list))) where
-      roomy-is : roomy f (length room) (length list) ≡ fits
-      roomy-is =
-          ap with-head good.0
+      roomy_is : roomy f (length room) (length list) ≡ fits
+      roomy_is =
+          ap with_head good.0
           ∙ ap₂ (λ (a b : ℕ). leb a (length room) && leb (2 * b) (length list))
           (ap (λ (x : List Piece). length (take 4 f ++ kept_bytes x)) (sym same) ∙ file-length ∙ ap (λ (i : ℕ). 4 + i) (sym is.kept))
           (ap gap_count (sym same) ∙ sym is.gaps)
           ∙ sym says
 
       pub room_small : not fits ≡ true → Rescues f room list (Refused 36) room list
-      room_small q = not-roomy (roomy-is ∙ not-true _ q)
+      room_small q = not_roomy (roomy_is ∙ not-true _ q)
 
       pub room-there : not fits ≡ false → Fits f ps room list
       room-there q =
@@ -99,7 +99,7 @@ module _ (f room list : Bytes) where
       pub rescued : not fits ≡ false → (room' list' : Bytes) → Writes 0 (take 4 f ++ kept_bytes ps) ps room room' list list'
           → Rescues f room list (Done (4 + s.kept) s.gaps) room' list'
       rescued q room' list' w =
-          let r = roomy-is ∙ not-false _ q in
+          let r = roomy_is ∙ not-false _ q in
           let bytes = ap (λ (i : ℕ). 4 + i) is.kept ∙ sym file-length ∙ ap (λ (x : List Piece). length (take 4 f ++ kept_bytes x)) same in
           record {
             answer = rw r (ap₂ done bytes (is.gaps ∙ ap gap_count same));
@@ -107,7 +107,7 @@ module _ (f room list : Bytes) where
             gaps = rw r (w.gaps ∙ ap (λ (x : List Piece). paste list 0 (gap_numbers 4 x) (length (gap_numbers 4 x))) same);
           }
 
--- ____ the file head, then the records
+-- ---- the file head, then the records
 
 pub four_bytes : (f : Bytes) → 4 ≤ length f → length (take 4 f) ≡ 4
 four_bytes f h = simp length-take (omega arith)

@@ -4,7 +4,7 @@ use Rattle.std.specs.Prelude.{Bool, cond, ◌&&◌, ◌||◌, List, [], ◌∷�
 use Rattle.octets.specs.Same.{same_bytes}
 use Rattle.trace_format.specs.Format.{Bytes, unreadable_number, Edition, edition_of, head_in, edition_in, good_file_head, kind_in, length_in, size_in, readable}
 
--- ____ where the reader takes up again
+-- ---- where the reader takes up again
 
 -- "payload begins FE 53 4D 42 or FD 53 4D 42"
 abbrev pub begins_message : Bytes → Bool
@@ -19,7 +19,7 @@ unfoldable pub passed : Edition → Bytes → ℕ
 passed e [] = 0
 passed e (x ∷ xs) = cond (is_found e (x ∷ xs)) 0 (passed e xs + 1)
 
--- ____ the bytes after the file head, in pieces
+-- ---- the bytes after the file head, in pieces
 
 pub data Piece : Type 0 where
   -- a good record
@@ -44,7 +44,7 @@ pieces_some (suc n) e (x ∷ xs) = piece_in e (x ∷ xs) ∷ pieces_some n e (dr
 abbrev pub pieces : Edition → Bytes → List Piece
 pieces e s = pieces_some (length s) e s
 
--- ____ what is written
+-- ---- what is written
 
 unfoldable pub kept_bytes : List Piece → Bytes
 kept_bytes [] = []
@@ -88,7 +88,7 @@ pub data Rescued : Type 0 where
 abbrev pub rescue_answer : Bytes → ℕ → ℕ → Rescued
 rescue_answer f n m = cond (roomy f n m) (done (length (rescued_file f)) (gap_count (pieces_of f))) (refused unreadable_number)
 
--- ____ as numbers and lent places, for C
+-- ---- as numbers and lent places, for C
 
 abbrev pub rescue_number : Rescued → ℕ
 rescue_number (done n k) = 0

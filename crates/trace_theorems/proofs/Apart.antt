@@ -32,9 +32,9 @@ module _ (e : Edition) (m : ℕ) (s : Bytes) (four : 4 ≤ m) where
       (leb_same 4 (length (take m s)) 4 (length s) (λ h. omega arith) (λ h. omega arith)) same_head
 
   module _ (holds : good_head e s ≡ true → size_in e s ≤ m) where
-    pub same-readable : readable e (take m s) ≡ readable e s
+    pub same_readable : readable e (take m s) ≡ readable e s
     unfolding readable
-    same-readable =
+    same_readable =
         ap₂ (λ (g : Bool) (h : ℕ). g && leb (4 + length_in e h) (length (take m s))) same_good same_head
         ∙ by (good_head e s) refl
       where

@@ -14,16 +14,16 @@ use Rattle.trace_format.specs.Format.{Bytes, Edition, edition_of, head_in, file_
 use Rattle.trace_format.specs.Format.{Reading, found, read_at, read_in}
 use Rattle.trace_format.specs.Records.{Record, record_in, Contents, before, read_all, records_bytes, bit, written_edition, head_readable, head_writable}
 use Rattle.trace_format.specs.Records.{file_head_bytes}
-use Rattle.trace_format.proofs.FormatLaws.{at-end, at-unreadable, at-readable, was, in_bad, in-good}
+use Rattle.trace_format.proofs.FormatLaws.{at-end, at-unreadable, at-readable, was, in_bad, in_good}
 use Rattle.trace_writer.specs.Answers.{up_to, refused}
 use Rattle.trace_format.proofs.ByteLaws.{length-file_head_bytes}
 use Rattle.trace_places.specs.Places.{place_behind, reading_number}
 use Rattle.trace_theorems.specs.Calls.{Room, write_head, write_list, accepted, Places, places_after, record_at, found_by}
 use Rattle.trace_theorems.specs.Traces.{file_of}
 use Rattle.trace_theorems.proofs.RoundTrip.{parts}
-use Rattle.trace_theorems.proofs.Lists.{stop, past, empty, read-on, read-stop, wrote, whole-file}
+use Rattle.trace_theorems.proofs.Lists.{stop, past, empty, read_on, read_stop, wrote, whole-file}
 
--- ____ one call
+-- ---- one call
 
 same_direction : (d : Bool) → not (eqb (bit d) 0) ≡ d
 same_direction true = refl
@@ -62,7 +62,7 @@ module _ (f : Bytes) (e : Edition) (l : Places) where
       ap (λ (b : Bool). cond (true && not b) (before (record_at f after) (found_by n f after)) (stop (drop after.at f)))
       (ne_eqb (length_in e (head_in s)) 0 (λ z. omega arith))
 
--- ____ from place to place
+-- ---- from place to place
 
 module _ (f : Bytes) (e : Edition) where
   turn_found : (n : ℕ) (l : Places) → length f ≤ l.at + suc n
@@ -74,7 +74,7 @@ module _ (f : Bytes) (e : Edition) where
       ap (turn f n l) (sym (at-end e f p x)) ∙ sym (empty (length (drop p f)) e (drop p f) (omega (arith, length-drop p f)))
   turn_found n l h ih false false qa qb =
       let p = l.at in
-      ap (turn f n l) (sym (at-unreadable e f p (leb-false (length f) p qa) qb)) ∙ sym (read-stop e (drop p f) qb)
+      ap (turn f n l) (sym (at-unreadable e f p (leb-false (length f) p qa) qb)) ∙ sym (read_stop e (drop p f) qb)
   turn_found n l h ih false true qa qb =
       let p = l.at in
       let s : Bytes = drop p f in
@@ -82,7 +82,7 @@ module _ (f : Bytes) (e : Edition) where
       ap (turn f n l) (sym (at-readable e f p qb))
       ∙ turn_on f e l n qb
       ∙ ap₂ before (same_record f e l) (ih (after f e l) (omega arith) ∙ ap (read_all e) (sym (drop-drop (size_in e s) p f)))
-      ∙ sym (read-on e s qb)
+      ∙ sym (read_on e s qb)
 
   found_from : ((p : ℕ) → read_in f p ≡ read_at e f p) → (n : ℕ) (l : Places) → length f ≤ l.at + n → found_by n f l ≡ read_all e (drop l.at f)
   unfolding found_by
@@ -93,14 +93,14 @@ module _ (f : Bytes) (e : Edition) where
 
 pub found_all : (f : Bytes) (e d c n : ℕ) (l : Places) → read_file_head f ≡ file_head e d c → length f ≤ l.at + n
     → found_by n f l ≡ read_all (edition_of e) (drop l.at f)
-found_all f e d c n l t h = found_from f (edition_of e) (λ p. sym (in-good f p e d c (sym t) (read_at (edition_of e) f p) refl)) n l h
+found_all f e d c n l t h = found_from f (edition_of e) (λ p. sym (in_good f p e d c (sym t) (read_at (edition_of e) f p) refl)) n l h
 
 pub found_none : (f : Bytes) (n : ℕ) (l : Places) → read_file_head f ≡ bad_file_head → found_by n f l ≡ record { records = []; rest = drop l.at f }
 unfolding found_by
 found_none f zero l t = refl
 found_none f (suc n) l t = ap (turn f n l) (sym (in_bad f l.at (sym t)))
 
--- ____ what the calls of the writer wrote
+-- ---- what the calls of the writer wrote
 
 module _ (d c : ℕ) (w : Room) (hd : d < 65536) (hc : c < 256) (four : 4 ≤ length w.bytes) where
   abbrev e : Edition
@@ -121,8 +121,8 @@ module _ (d c : ℕ) (w : Room) (hd : d < 65536) (hc : c < 256) (four : 4 ≤ le
       let ok : head_writable written_edition c ≡ true = lt-ltb c 256 hc in
       ap left (both (head_writable written_edition c) _ ok (le-leb (0 + length head) (length w.bytes) (omega arith)))
 
-  file-is : (rs : List Record) → let after = write_list e rs headed in take after.at after.bytes ≡ file_of written_edition d c (accepted e rs headed)
-  file-is rs =
+  file_is : (rs : List Record) → let after = write_list e rs headed in take after.at after.bytes ≡ file_of written_edition d c (accepted e rs headed)
+  file_is rs =
       let z = length-file_head_bytes written_edition d c in
       let start = take-paste w.bytes 0 head (length head) (omega arith) (omega arith) ∙ take-length head in
       (wrote e rs headed).bytes
@@ -132,7 +132,7 @@ module _ (d c : ℕ) (w : Room) (hd : d < 65536) (hc : c < 256) (four : 4 ≤ le
   file-length rs =
       let z = length-file_head_bytes written_edition d c in
       let after = write_list e rs headed in
-      let a = ap length (file-is rs) in
+      let a = ap length (file_is rs) in
       let b = length-take after.at after.bytes in
       let size = (wrote e rs headed).size in
       let room = ap (λ (v : Room). length v.bytes) head-left ∙ length-paste w.bytes 0 head (length head) (omega arith) (omega arith) in
@@ -145,7 +145,7 @@ module _ (d c : ℕ) (w : Room) (hd : d < 65536) (hc : c < 256) (four : 4 ≤ le
       let known : head_readable written_edition c ≡ true = lt-ltb c 256 hc in
       let r = whole-file written_edition d c kept known (omega arith) hd (wrote e rs headed).admitted in
       let long = file-length rs in
-      ap (λ (x : Bytes). found_by n x l) (file-is rs)
+      ap (λ (x : Bytes). found_by n x l) (file_is rs)
       ∙ found_all (file_of written_edition d c kept) written_edition d c n l r.0 (omega arith)
       ∙ ap (λ (p : ℕ). read_all e (drop p (file_of written_edition d c kept))) first
       ∙ r.1

@@ -35,7 +35,7 @@ first-refuses f two =
 pub one_written : (n c : ℕ) → head_writable n c ≡ true → n ≡ 2
 one_written n c t = eqb-true n written_edition (and_true (eqb n written_edition) (head_readable n c) t).0
 
--- ____ what the edition 1 reader reads
+-- ---- what the edition 1 reader reads
 
 one_known : (n : ℕ) → known_to first_editions n ≡ true → eqb n 1 ≡ true
 one_known n k = by (eqb n 1) k

@@ -23,12 +23,12 @@ use Rattle.trace_writer.specs.Answers.{up_to, refused}
 use Rattle.trace_places.specs.Places.{written_number, place_behind}
 use Rattle.trace_theorems.specs.Calls.{Room, write_next, write_list, accepted}
 use Rattle.trace_theorems.specs.Traces.{Octets, file_of}
-use Rattle.trace_theorems.proofs.RoundTrip.{octets_drop, Sound, sound, reads, stood, read-writable}
+use Rattle.trace_theorems.proofs.RoundTrip.{octets_drop, Sound, sound, reads, stood, read_writable}
 
 abbrev pub stop : Bytes → Contents
 stop s = record { records = []; rest = s }
 
--- ____ reading, one record at a time
+-- ---- reading, one record at a time
 
 pub past : (e : Edition) (s : Bytes) → readable e s ≡ true → (4 ≤ size_in e s) × (size_in e s ≤ length s)
 past e s t = let g = readable-good e s t in (omega arith, g.1)
@@ -56,22 +56,22 @@ enough (suc n) (suc m) e s hn hm =
     let l = length-drop (size_in e s) s in
     turn (readable e s) (record_in e s) _ _ (stop s) (λ q. let p = past e s q in enough n m e (drop (size_in e s) s) (omega arith) (omega arith))
 
-pub read-on : (e : Edition) (s : Bytes) → readable e s ≡ true → read_all e s ≡ before (record_in e s) (read_all e (drop (size_in e s) s))
+pub read_on : (e : Edition) (s : Bytes) → readable e s ≡ true → read_all e s ≡ before (record_in e s) (read_all e (drop (size_in e s) s))
 unfolding read_some
-read-on e [] q = let p = past e [] q in absurd (omega arith)
-read-on e (x ∷ xs) q =
+read_on e [] q = let p = past e [] q in absurd (omega arith)
+read_on e (x ∷ xs) q =
     let s : Bytes = x ∷ xs in
     let p = past e s q in
     let l = length-drop (size_in e s) s in
     let d : Bytes = drop (size_in e s) s in
     rw q (ap (before (record_in e s)) (enough (length xs) (length d) e d (omega arith) (omega arith)))
 
-pub read-stop : (e : Edition) (s : Bytes) → readable e s ≡ false → read_all e s ≡ stop s
+pub read_stop : (e : Edition) (s : Bytes) → readable e s ≡ false → read_all e s ≡ stop s
 unfolding read_some
-read-stop e [] t = refl
-read-stop e (x ∷ xs) t = rw t
+read_stop e [] t = refl
+read_stop e (x ∷ xs) t = rw t
 
--- ____ what was written is read
+-- ---- what was written is read
 
 abbrev pub joined : List Record → Contents → Contents
 joined rs c = record { records = rs ++ c.records; rest = c.rest }
@@ -87,7 +87,7 @@ written_read n (r ∷ rs) s w =
     let t : Bytes = records_bytes e rs ++ s in
     let q = reads e (sound n) r t b.0 in
     ap (read_all e) (append_assoc (record_bytes e r) (records_bytes e rs) s)
-    ∙ read-on e (record_bytes e r ++ t) q.is-readable
+    ∙ read_on e (record_bytes e r ++ t) q.is_readable
     ∙ ap₂ (λ (x : Record) (y : Bytes). before x (read_all e y)) q.same q.behind
     ∙ ap (before r) (written_read n rs s b.1)
 
@@ -95,14 +95,14 @@ pub nothing_left : (e : Edition) → read_all e [] ≡ record { records = []; re
 nothing_left e = empty 0 e [] (omega arith)
 
 -- nothing behind them: the same records, and nothing is left
-pub same-records : (n : ℕ) (rs : List Record) → all_writable (edition_of n) rs ≡ true
+pub same_records : (n : ℕ) (rs : List Record) → all_writable (edition_of n) rs ≡ true
     → read_all (edition_of n) (records_bytes (edition_of n) rs) ≡ record { records = rs; rest = [] }
-same-records n rs w =
+same_records n rs w =
     let e = edition_of n in
     ap (read_all e) (sym (append-nil (records_bytes e rs))) ∙ written_read n rs [] w
     ∙ ap (joined rs) (nothing_left e) ∙ ap (λ (x : List Record). record { records = x; rest = [] }) (append-nil rs)
 
--- ____ what was read is written as it stood
+-- ---- what was read is written as it stood
 
 module _ (e : Edition) (ok : Sound e) where
   again : (t : Bool) (r : Record) (a : Contents) (s : Bytes) → (t ≡ true → record_bytes e r ++ (records_bytes e a.records ++ a.rest) ≡ s)
@@ -127,17 +127,17 @@ module _ (e : Edition) (ok : Sound e) where
   each : (m : ℕ) (s : Bytes) → all_writable e (read_some m e s).records ≡ true
   unfolding read_some
   each zero s = refl
-  each (suc m) s = all_there (readable e s) (record_in e s) (read_some m e (drop (size_in e s) s)) s (λ q. read-writable e s q) (each m (drop (size_in e s) s))
+  each (suc m) s = all_there (readable e s) (record_in e s) (read_some m e (drop (size_in e s) s)) s (λ q. read_writable e s q) (each m (drop (size_in e s) s))
 
 -- what was read, written again, and what is left are the bytes that were lent
-pub read-written : (n : ℕ) {s : Bytes} → Octets s → records_bytes (edition_of n) (read_all (edition_of n) s).records ++ (read_all (edition_of n) s).rest ≡ s
-read-written n {s} o = back (edition_of n) (sound n) (length s) o
+pub read_written : (n : ℕ) {s : Bytes} → Octets s → records_bytes (edition_of n) (read_all (edition_of n) s).records ++ (read_all (edition_of n) s).rest ≡ s
+read_written n {s} o = back (edition_of n) (sound n) (length s) o
 
 -- and the writer refuses none of it
-pub all_read-writable : (n : ℕ) (s : Bytes) → all_writable (edition_of n) (read_all (edition_of n) s).records ≡ true
-all_read-writable n s = each (edition_of n) (sound n) (length s) s
+pub all_read_writable : (n : ℕ) (s : Bytes) → all_writable (edition_of n) (read_all (edition_of n) s).records ≡ true
+all_read_writable n s = each (edition_of n) (sound n) (length s) s
 
--- ____ a list of calls of the writer, refused ones included
+-- ---- a list of calls of the writer, refused ones included
 
 pub record Wrote (e : Edition) (rs : List Record) (w : Room) : Type 0 where
   pub bytes : take (write_list e rs w).at (write_list e rs w).bytes ≡ take w.at w.bytes ++ records_bytes e (accepted e rs w)
@@ -151,17 +151,17 @@ holds e r w = writable e r && leb (w.at + length (record_bytes e r)) (length w.b
 abbrev pasted : Edition → Record → Room → Bytes
 pasted e r w = paste w.bytes w.at (record_bytes e r) (length (record_bytes e r))
 
-next-is : (t : Bool) (e : Edition) (r : Record) (w : Room) → holds e r w ≡ t
+next_is : (t : Bool) (e : Edition) (r : Record) (w : Room) → holds e r w ≡ t
     → let z = w.at + length (record_bytes e r) in
     write_next e r w ≡ record { bytes = cond t (pasted e r w) w.bytes; at = place_behind (cond t (up_to z) (refused 36)) w.at }
-next-is t e r w q =
+next_is t e r w q =
     let z = w.at + length (record_bytes e r) in
     ap {B = Room} (λ (b : Bool). record { bytes = cond b (pasted e r w) w.bytes; at = place_behind (cond b (up_to z) (refused 36)) w.at }) q
 
-accepted-is : (t : Bool) (e : Edition) (r : Record) (rs : List Record) (w : Room) → holds e r w ≡ t
+accepted_is : (t : Bool) (e : Edition) (r : Record) (rs : List Record) (w : Room) → holds e r w ≡ t
     → let tail = accepted e rs (write_next e r w) in accepted e (r ∷ rs) w ≡ cond t (r ∷ tail) tail
 unfolding accepted
-accepted-is t e r rs w q =
+accepted_is t e r rs w q =
     let z = w.at + length (record_bytes e r) in
     let tail : List Record = accepted e rs (write_next e r w) in
     ap (λ (b : Bool). cond (eqb (written_number (cond b (up_to z) (refused 36))) 0) (r ∷ tail) tail) q ∙ by t
@@ -179,8 +179,8 @@ wrote_at true e r rs w q k =
     let front : take (w.at + length (record_bytes e r)) (pasted e r w) ≡ take w.at w.bytes ++ record_bytes e r =
     take-paste w.bytes w.at (record_bytes e r) (length (record_bytes e r)) (omega arith) (omega arith)
     ∙ ap (λ (x : Bytes). take w.at w.bytes ++ x) (take-length (record_bytes e r)) in
-    let next = next-is true e r w q in
-    let acc = accepted-is true e r rs w q in
+    let next = next_is true e r w q in
+    let acc = accepted_is true e r rs w q in
     let tail : List Record = accepted e rs (write_next e r w) in
     record {
       bytes =
@@ -195,8 +195,8 @@ wrote_at true e r rs w q k =
       admitted = ap (all_writable e) acc ∙ ap (λ (t : Bool). t && all_writable e tail) a.0 ∙ k.admitted;
     }
 wrote_at false e r rs w q k =
-    let next = next-is false e r w q in
-    let acc = accepted-is false e r rs w q in
+    let next = next_is false e r w q in
+    let acc = accepted_is false e r rs w q in
     let tail : List Record = accepted e rs (write_next e r w) in
     record {
       bytes =
@@ -222,15 +222,15 @@ calls_read n rs w h =
     let l : length (take w.at w.bytes) ≡ w.at = simp length-take (omega arith) in
     ap (λ (x : Bytes). read_all e (drop w.at x)) k.bytes
     ∙ ap (read_all e) (drop_at (take w.at w.bytes) (records_bytes e (accepted e rs w)) w.at l)
-    ∙ same-records n (accepted e rs w) k.admitted
+    ∙ same_records n (accepted e rs w) k.admitted
 
--- ____ whole files
+-- ---- whole files
 
 -- a file head, and whatever stands behind it
-pub file-read : (n d c : ℕ) (s : Bytes) → head_readable n c ≡ true → n < 256 → d < 65536
+pub file_read : (n d c : ℕ) (s : Bytes) → head_readable n c ≡ true → n < 256 → d < 65536
     → (read_file_head (file_head_bytes n d c ++ s) ≡ file_head n d c) × (drop 4 (file_head_bytes n d c ++ s) ≡ s)
 unfolding read_file_head_by good_file_head file_head_bytes
-file-read n d c s w hn hd =
+file_read n d c s w hn hd =
     let ok = and_true (known n) (ltb c 256) w in
     let hc = ltb-true c 256 ok.1 in
     let b : Bytes = file_head_bytes n d c in
@@ -246,8 +246,8 @@ file-read n d c s w hn hd =
 pub whole-file : (n d c : ℕ) (rs : List Record) → head_readable n c ≡ true → n < 256 → d < 65536 → all_writable (edition_of n) rs ≡ true
     → (read_file_head (file_of n d c rs) ≡ file_head n d c) × (read_all (edition_of n) (drop 4 (file_of n d c rs)) ≡ record { records = rs; rest = [] })
 whole-file n d c rs k hn hd w =
-    let f = file-read n d c (records_bytes (edition_of n) rs) k hn hd in
-    (f.0, ap (read_all (edition_of n)) f.1 ∙ same-records n rs w)
+    let f = file_read n d c (records_bytes (edition_of n) rs) k hn hd in
+    (f.0, ap (read_all (edition_of n)) f.1 ∙ same_records n rs w)
 
 -- a head that is read back is of a known edition, with a cipher of eight bits
 pub head_back : (f : Bytes) (n d c : ℕ) → read_file_head f ≡ file_head n d c → head_readable n c ≡ true

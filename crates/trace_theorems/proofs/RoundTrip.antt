@@ -20,7 +20,7 @@ use Rattle.trace_theorems.specs.Traces.{Octets, none, more}
 use Rattle.trace_format.proofs.FormatLaws.{four_there, readable-good}
 use Rattle.trace_format.proofs.ByteLaws.{length-record_head, bit_small}
 
--- ____ four bytes
+-- ---- four bytes
 
 above : (q r : ℕ) → r < 256 → (q * 256 + r) / 256 ≡ q
 above q r h = omega arith
@@ -49,19 +49,19 @@ four_less : (a b c d : ℕ) → a < 256 → b < 256 → c < 256 → d < 256 → 
 unfolding big_endian_after
 four_less a b c d ha hb hc hd = omega arith
 
-pub head-same : {s : Bytes} → Octets s → 4 ≤ length s → (to_big_endian 4 (head_in s) ≡ take 4 s) × (head_in s < 4294967296)
-head-same none h = absurd (omega arith)
-head-same (more a none) h = absurd (omega arith)
-head-same (more a (more b none)) h = absurd (omega arith)
-head-same (more a (more b (more c none))) h = absurd (omega arith)
-head-same (more {x = x} a (more {x = y} b (more {x = z} c (more {x = w} d o)))) h = (four_same x y z w a b c d, four_less x y z w a b c d)
+pub head_same : {s : Bytes} → Octets s → 4 ≤ length s → (to_big_endian 4 (head_in s) ≡ take 4 s) × (head_in s < 4294967296)
+head_same none h = absurd (omega arith)
+head_same (more a none) h = absurd (omega arith)
+head_same (more a (more b none)) h = absurd (omega arith)
+head_same (more a (more b (more c none))) h = absurd (omega arith)
+head_same (more {x = x} a (more {x = y} b (more {x = z} c (more {x = w} d o)))) h = (four_same x y z w a b c d, four_less x y z w a b c d)
 
 pub octets_drop : (n : ℕ) {s : Bytes} → Octets s → Octets (drop n s)
 octets_drop zero o = o
 octets_drop (suc n) none = none
 octets_drop (suc n) (more x o) = octets_drop n o
 
--- ____ the fields of a record's head
+-- ---- the fields of a record's head
 
 bit-of : (x : ℕ) → x < 2 → bit (eqb x 1) ≡ x
 bit-of zero h = refl
@@ -77,28 +77,28 @@ pub record Sound (e : Edition) : Type 0 where
   pub written_read : (k b n : ℕ) → k ≤ 3 → b ≤ 1 → 1 ≤ n → n ≤ e.longest
       → let h = k * 536870912 + b * 268435456 + n * e.unit in
       (h < 4294967296) × (kind_in h ≡ k) × (h / 268435456 % 2 ≡ b) × (length_in e h ≡ n) × (h % e.unit ≡ 0)
-  pub read-written : (h : ℕ) → h < 4294967296 → h % e.unit ≡ 0
+  pub read_written : (h : ℕ) → h < 4294967296 → h % e.unit ≡ 0
       → kind_in h * 536870912 + h / 268435456 % 2 * 268435456 + length_in e h * e.unit ≡ h
 
 sound_1 : Sound edition1
 sound_1 =
     record {
       written_read = λ k b n hk hb h1 hn. (omega arith, omega arith, omega arith, omega arith, omega arith);
-      read-written = λ h l z. omega arith;
+      read_written = λ h l z. omega arith;
     }
 
 sound_2 : Sound edition2
 sound_2 =
     record {
       written_read = λ k b n hk hb h1 hn. (omega arith, omega arith, omega arith, omega arith, omega arith);
-      read-written = λ h l z. omega arith;
+      read_written = λ h l z. omega arith;
     }
 
 sound_none : Sound no_edition
 sound_none =
     record {
       written_read = λ k b n hk hb h1 hn. absurd (omega arith);
-      read-written = λ h l z. omega arith;
+      read_written = λ h l z. omega arith;
     }
 
 pub sound : (n : ℕ) → Sound (edition_of n)
@@ -109,7 +109,7 @@ sound n = by (eqb n 1) (eqb n 2)
     by false true = sound_2
     by false false = sound_none
 
--- ____ one record
+-- ---- one record
 
 pub parts : (e : Edition) (k n : ℕ) → admitted e k n ≡ true → (k ≤ 3) × (1 ≤ n) × (n ≤ e.longest)
 parts e k n t =
@@ -120,7 +120,7 @@ parts e k n t =
 
 -- what was written is read, whatever stands behind it
 pub record Reads (e : Edition) (r : Record) (rest : Bytes) : Type 0 where
-  pub is-readable : readable e (record_bytes e r ++ rest) ≡ true
+  pub is_readable : readable e (record_bytes e r ++ rest) ≡ true
   pub same : record_in e (record_bytes e r ++ rest) ≡ r
   pub size : size_in e (record_bytes e r ++ rest) ≡ length (record_bytes e r)
   pub behind : drop (size_in e (record_bytes e r ++ rest)) (record_bytes e r ++ rest) ≡ rest
@@ -160,41 +160,41 @@ module _ (e : Edition) (ok : Sound e) (r : Record) (rest : Bytes) (w : writable 
   unfolding record_head
   is_number = ap big_endian front ∙ big_back 4 number fields.0
 
-  is-kind : kind_in (head_in s) ≡ r.kind
-  is-kind = ap kind_in is_number ∙ fields.1
+  is_kind : kind_in (head_in s) ≡ r.kind
+  is_kind = ap kind_in is_number ∙ fields.1
 
   is_from : from_server_in (head_in s) ≡ r.from_server
   is_from = ap from_server_in is_number ∙ ap (λ (x : ℕ). eqb x 1) fields.2 ∙ of-bit r.from_server
 
-  is-length : length_in e (head_in s) ≡ length r.payload
-  is-length = ap (length_in e) is_number ∙ fields.3
+  is_length : length_in e (head_in s) ≡ length r.payload
+  is_length = ap (length_in e) is_number ∙ fields.3
 
-  is-good : good_head e s ≡ true
+  is_good : good_head e s ≡ true
   unfolding good_head
-  is-good =
+  is_good =
       let l = length_s in
       rw (le-leb 4 (length s) (omega arith), eq-eqb (head_in s % e.unit) 0 (ap (λ (h : ℕ). h % e.unit) is_number ∙ fields.4))
-      (ap₂ (admitted e) is-kind is-length ∙ w)
+      (ap₂ (admitted e) is_kind is_length ∙ w)
 
-  is-size : size_in e s ≡ length (record_bytes e r)
-  is-size = ap (λ (m : ℕ). 4 + m) is-length ∙ sym length-bytes
+  is_size : size_in e s ≡ length (record_bytes e r)
+  is_size = ap (λ (m : ℕ). 4 + m) is_length ∙ sym length-bytes
 
   pub reads : Reads e r rest
   unfolding readable record_in
   reads =
       let l = length_s in
-      let z = is-size in
+      let z = is_size in
       let b = length-bytes in
       record {
-        is-readable = rw (is-good) (le-leb (size_in e s) (length s) (omega arith));
+        is_readable = rw (is_good) (le-leb (size_in e s) (length s) (omega arith));
         same =
             λ i. record {
-              kind = is-kind i;
+              kind = is_kind i;
               from_server = is_from i;
-              payload = (ap₂ (λ (m : ℕ) (t : Bytes). take m t) is-length tail ∙ take_at r.payload rest (length r.payload) refl) i;
+              payload = (ap₂ (λ (m : ℕ) (t : Bytes). take m t) is_length tail ∙ take_at r.payload rest (length r.payload) refl) i;
             };
-        size = is-size;
-        behind = ap (λ (m : ℕ). drop m s) is-size ∙ drop_at (record_bytes e r) rest (length (record_bytes e r)) refl;
+        size = is_size;
+        behind = ap (λ (m : ℕ). drop m s) is_size ∙ drop_at (record_bytes e r) rest (length (record_bytes e r)) refl;
       }
 
 -- what was read is written as it stood
@@ -212,7 +212,7 @@ unfolding record_in record_head
 stood e ok {s} o t =
     let g = readable-good e s t in
     let four = four_there e s g.0 in
-    let h = head-same o four in
+    let h = head_same o four in
     let i = g.1 in
     let n = length_in e (head_in s) in
     let payload : Bytes = take n (drop 4 s) in
@@ -222,7 +222,7 @@ stood e ok {s} o t =
       bytes =
           ap (λ (m : ℕ). to_big_endian 4 (kind_in (head_in s) * 536870912 + bit (from_server_in (head_in s)) * 268435456 + m * e.unit) ++ payload) lt
           ∙ ap (λ (m : ℕ). to_big_endian 4 (kind_in (head_in s) * 536870912 + m * 268435456 + n * e.unit) ++ payload) b
-          ∙ ap (λ (m : ℕ). to_big_endian 4 m ++ payload) (ok.read-written (head_in s) h.1 (spare e s g.0))
+          ∙ ap (λ (m : ℕ). to_big_endian 4 m ++ payload) (ok.read_written (head_in s) h.1 (spare e s g.0))
           ∙ ap (λ (x : Bytes). x ++ payload) h.0
           ∙ sym (take-add 4 n s);
       positive = omega arith;
@@ -230,9 +230,9 @@ stood e ok {s} o t =
     }
 
 -- what was read is admitted
-pub read-writable : (e : Edition) (s : Bytes) → readable e s ≡ true → writable e (record_in e s) ≡ true
+pub read_writable : (e : Edition) (s : Bytes) → readable e s ≡ true → writable e (record_in e s) ≡ true
 unfolding good_head record_in
-read-writable e s t =
+read_writable e s t =
     let g = readable-good e s t in
     let a = and_true (eqb (head_in s % e.unit) 0) (admitted e (kind_in (head_in s)) (length_in e (head_in s))) (and_true (leb 4 (length s)) _ g.0).1 in
     let i = g.1 in

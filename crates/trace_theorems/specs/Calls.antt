@@ -7,7 +7,7 @@ use Rattle.trace_format.specs.Records.{Record, Contents, before, record_bytes, w
 use Rattle.trace_writer.specs.Answers.{write_answer, room_after}
 use Rattle.trace_places.specs.Places.{written_number, place_behind, reading_number, kind_to, from_server_to, payload_to, length_to, next_to}
 
--- ____ the writer
+-- ---- the writer
 
 -- the lent room, and the place of the next record
 pub record Room : Type 0 where
@@ -40,7 +40,7 @@ unfoldable pub accepted : Edition → List Record → Room → List Record
 accepted e [] w = []
 accepted e (r ∷ rs) w = cond (accepts e r w) (r ∷ accepted e rs (write_next e r w)) (accepted e rs (write_next e r w))
 
--- ____ the reader
+-- ---- the reader
 
 -- the places that are lent to it
 pub record Places : Type 0 where

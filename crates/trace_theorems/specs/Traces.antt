@@ -34,7 +34,7 @@ pub record WritingThenReading : Type 0 where
   pub calls_read : (n : ℕ) (rs : List Record) (w : Room) → w.at ≤ length w.bytes → let e = edition_of n in let after = write_list e rs w in
       read_all e (drop w.at (take after.at after.bytes)) ≡ record { records = accepted e rs w; rest = [] }
   -- every file of records that the writer of its edition accepts
-  pub file-read : (n d c : ℕ) (rs : List Record) → n < 256 → d < 65536 → head_readable n c ≡ true → all_writable (edition_of n) rs ≡ true
+  pub file_read : (n d c : ℕ) (rs : List Record) → n < 256 → d < 65536 → head_readable n c ≡ true → all_writable (edition_of n) rs ≡ true
       → (read_file_head (file_of n d c rs) ≡ file_head n d c) × (read_all (edition_of n) (drop 4 (file_of n d c rs)) ≡ record { records = rs; rest = [] })
   -- and of any bytes, in the layout of each edition: what was read, written again, and what is left are those bytes, and all of it is writable.
   -- The writer has edition 2 alone
@@ -65,7 +65,7 @@ pub record ReadingApart : Type 0 where
 
 -- two editions
 pub record TwoEditions : Type 0 where
-  -- "new readers read both editions": whatever the edition 1 reader reads, at every place of the file
+  -- "New readers read both editions": whatever the edition 1 reader reads, at every place of the file
   pub first_read : (f : Bytes) (e d c : ℕ) → read_file_head_by first_editions f ≡ file_head e d c
       → (read_file_head f ≡ file_head e d c) × ((p : ℕ) → read_in f p ≡ read_in_by first_editions f p)
   -- "a new writer writes edition 2 only, and answers 36 to an edition 1 head"
@@ -75,7 +75,7 @@ pub record TwoEditions : Type 0 where
       → (read_file_head_by first_editions f ≡ bad_file_head) × ((p : ℕ) → read_in_by first_editions f p ≡ unreadable)
 
 pub record Traces : Type 0 where
-  pub writes_what-is-read : WritesWhatIsRead
+  pub writes_what_is_read : WritesWhatIsRead
   pub writing_then_reading : WritingThenReading
   pub reading_by_calls : ReadingByCalls
   pub reading_apart : ReadingApart

@@ -11,7 +11,7 @@ use Rattle.trace_window.specs.declared.Step.TheVariants.{Turn, Read, Begin, Pass
 abbrev pub held : ℕ
 held = 65536
 
--- ____ what comes next
+-- ---- what comes next
 
 -- at a record, of which m bytes are in the window, and which the file may end in: its line is known where its head is bad, or its payload is
 -- there; one that is not held is passed over
@@ -30,7 +30,7 @@ next_of e c w =
     (cond (nat_lt 0 c.size) Passed
     (by_head (read_head e (in_window c w)) (length (in_window c w)) c.ended))
 
--- ____ what the window is afterwards
+-- ---- what the window is afterwards
 
 -- of a long record, as many bytes are passed over as the window has
 abbrev pub passing : Cursor → ℕ → Cursor

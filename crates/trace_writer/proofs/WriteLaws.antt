@@ -42,23 +42,23 @@ and_false : (b : Bool) → (b && false) ≡ false
 and_false true = refl
 and_false false = refl
 
--- ____ the answers
+-- ---- the answers
 
 module _ (ok : Bool) (b room : Bytes) (p : ℕ) where
-  pub not-read : ok ≡ false → Writes ok b room p (Refused 36) room
-  not-read e = record { answer = rw e refl; bytes = rw e refl }
+  pub not_read : ok ≡ false → Writes ok b room p (Refused 36) room
+  not_read e = record { answer = rw e refl; bytes = rw e refl }
 
   full : leb (p + length b) (length room) ≡ false → (ok && leb (p + length b) (length room)) ≡ false
   full e = rw e (and_false ok)
 
-  pub not-held : leb (p + length b) (length room) ≡ false → Writes ok b room p (Refused 36) room
-  not-held e = record { answer = rw (full e); bytes = rw (full e) }
+  pub not_held : leb (p + length b) (length room) ≡ false → Writes ok b room p (Refused 36) room
+  not_held e = record { answer = rw (full e); bytes = rw (full e) }
 
   pub written : ok ≡ true → leb (p + length b) (length room) ≡ true → (n : ℕ) (after : Bytes) → n ≡ p + length b → after ≡ paste room p b (length b)
       → Writes ok b room p (UpTo n) after
   written e h n after en ea = record { answer = rw (e, h) (ap up_to en); bytes = rw (e, h) ea }
 
--- ____ a record, as the code judges it
+-- ---- a record, as the code judges it
 
 module _ (e : Edition) (k : ℕ) (d : Bool) (pay room : Bytes) (at : ℕ) (admits : Bool) (said : admits ≡ admitted e k (length pay)) where
   abbrev r : Record
@@ -70,15 +70,15 @@ module _ (e : Edition) (k : ℕ) (d : Bool) (pay room : Bytes) (at : ℕ) (admit
   pub record_admitted : not admits ≡ false → admitted e k (length pay) ≡ true
   record_admitted t = sym said ∙ not-false _ t
 
-  pub record_not-read : not admits ≡ true → Writes (writable e r) (record_bytes e r) room at (Refused 36) room
-  record_not-read t = not-read (writable e r) (record_bytes e r) room at (sym said ∙ not-true _ t)
+  pub record_not_read : not admits ≡ true → Writes (writable e r) (record_bytes e r) room at (Refused 36) room
+  record_not_read t = not_read (writable e r) (record_bytes e r) room at (sym said ∙ not-true _ t)
 
   module _ (holds : Bool) (inside : holds ≡ leb (at + (4 + length pay)) (length room)) where
     fitting : (b : Bool) → holds ≡ b → leb (at + length (record_bytes e r)) (length room) ≡ b
     fitting b t = ap (λ (n : ℕ). leb (at + n) (length room)) size ∙ sym inside ∙ t
 
-    pub record_not-held : not holds ≡ true → Writes (writable e r) (record_bytes e r) room at (Refused 36) room
-    record_not-held t = not-held (writable e r) (record_bytes e r) room at (fitting false (not-true _ t))
+    pub record_not_held : not holds ≡ true → Writes (writable e r) (record_bytes e r) room at (Refused 36) room
+    record_not_held t = not_held (writable e r) (record_bytes e r) room at (fitting false (not-true _ t))
 
     pub record_inside : not holds ≡ false → at + (4 + length pay) ≤ length room
     record_inside t = leb-true _ _ (sym inside ∙ not-false _ t)
@@ -90,22 +90,22 @@ module _ (e : Edition) (k : ℕ) (d : Bool) (pay room : Bytes) (at : ℕ) (admit
         written (writable e r) (record_bytes e r) room at (record_admitted a) (fitting true (not-false _ h)) (at + 4 + length pay) after
         (omega arith) (ea ∙ ap (λ (x : Bytes). paste room at (x ++ pay) (length (x ++ pay))) eh)
 
--- ____ a file head
+-- ---- a file head
 
 module _ (e d c : ℕ) (room : Bytes) where
   pub head-other : (e ≡ written_edition → ⊥) → Writes (head_writable e c) (file_head_bytes e d c) room 0 (Refused 36) room
   head-other n =
-      not-read (head_writable e c) (file_head_bytes e d c) room 0 (ap (λ (b : Bool). b && head_readable e c) (ne_eqb e written_edition n))
+      not_read (head_writable e c) (file_head_bytes e d c) room 0 (ap (λ (b : Bool). b && head_readable e c) (ne_eqb e written_edition n))
 
   pub head-wide : 256 ≤ c → Writes (head_writable e c) (file_head_bytes e d c) room 0 (Refused 36) room
   head-wide h =
       let none : head_readable e c ≡ false = ap (λ (b : Bool). known e && b) (le-ltb c 256 h) ∙ and_false (known e) in
-      not-read (head_writable e c) (file_head_bytes e d c) room 0 (ap (λ (b : Bool). eqb e written_edition && b) none ∙ and_false (eqb e written_edition))
+      not_read (head_writable e c) (file_head_bytes e d c) room 0 (ap (λ (b : Bool). eqb e written_edition && b) none ∙ and_false (eqb e written_edition))
 
-  pub head-not-held : length room < 4 → Writes (head_writable e c) (file_head_bytes e d c) room 0 (Refused 36) room
-  head-not-held h =
+  pub head_not_held : length room < 4 → Writes (head_writable e c) (file_head_bytes e d c) room 0 (Refused 36) room
+  head_not_held h =
       let z = length-file_head_bytes e d c in
-      not-held (head_writable e c) (file_head_bytes e d c) room 0 (lt-leb (0 + length (file_head_bytes e d c)) (length room) (omega arith))
+      not_held (head_writable e c) (file_head_bytes e d c) room 0 (lt-leb (0 + length (file_head_bytes e d c)) (length room) (omega arith))
 
   pub head-written : e ≡ written_edition → c < 256 → 4 ≤ length room → (after : Bytes)
       → after ≡ paste room 0 (file_head_bytes e d c) (length (file_head_bytes e d c)) → Writes (head_writable e c) (file_head_bytes e d c) room 0 (UpTo 4) after

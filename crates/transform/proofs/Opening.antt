@@ -26,7 +26,7 @@ use Rattle.protocol.specs.Suite.{suite, ciphers}
 use Rattle.protocol.proofs.AnswerLaws.{when_done_lem, when_refused, when_part, after_nothing}
 use Rattle.protocol.proofs.CallLaws.{makes_when, makes_refused}
 use Rattle.protocol.proofs.First.{First, first-passed}
-use Rattle.protocol.proofs.FirstOf.{first-of-both}
+use Rattle.protocol.proofs.FirstOf.{first-of_both}
 use Rattle.protocol.proofs.Judging.{refuses, passes, judge-passed, judge-append}
 use Rattle.protocol.proofs.SuiteLaws.{suite_sound}
 use Rattle.transform_header.specs.Reading.{header_in}
@@ -103,7 +103,7 @@ module _ (cipher : ℕ) (key : Bytes) (e : Envelope) (m : Bytes) where
             ∙ when_inner m a (get_or (deciphered cipher key (header_of m) (inner m)) []);
       }
 
--- ____ the whole: c is what the connection agreed on
+-- ---- the whole: c is what the connection agreed on
 
 module _ (c : Connection) (key : Bytes) (id : ℕ) (m : Bytes) where
   -- the lines before the tag
@@ -131,7 +131,7 @@ module _ (c : Connection) (key : Bytes) (id : ℕ) (m : Bytes) where
       pub lines-passed : First c key m
       lines-passed =
           first-passed c key m 0
-          (sym (first-of-both (key_tests c key ++ message_tests c m) (header_tests c (header_of m) ++ (other_session (eqb (session_id_of m) id) ∷ [])) (sym s ∙ z))) refl
+          (sym (first-of_both (key_tests c key ++ message_tests c m) (header_tests c (header_of m) ++ (other_session (eqb (session_id_of m) id) ∷ [])) (sym s ∙ z))) refl
 
       pub message-opens : (used : ℕ) (e : Envelope) (m' : Bytes) (a : Answer) → used ≡ cipher_used c → e ≡ sent_by (other c.role) id → OpensMessage used key e m m' a
           → Makes (opening_under c key id) (only_message m) a (only_message m')

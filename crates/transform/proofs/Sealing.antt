@@ -63,7 +63,7 @@ module _ (cipher : ℕ) (key : Bytes) (counter id : ℕ) (m : Bytes) (sized : Si
       (length-take-le 52 m (omega arith)) in
       e2 ∙ rw (body, s'.bytes, s'.tagged, ea, en, length-drop 52 m)
 
--- ____ the whole: c is what the connection agreed on, k the counter
+-- ---- the whole: c is what the connection agreed on, k the counter
 
 module _ (c : Connection) (key : Bytes) (id k : ℕ) (m : Bytes) where
   abbrev sealed : Answer

@@ -15,7 +15,7 @@ use Rattle.protocol.specs.Transform.{plaintext_under, opened_to}
 use Rattle.protocol.specs.Calls.{text_tests}
 use Rattle.protocol.specs.Suite.{ciphers}
 
--- ____ the ciphers by number, with the cipher x
+-- ---- the ciphers by number, with the cipher x
 
 -- sealing: the text becomes text', and r is the tag
 pub record Enciphered (x : Cipher) (key nonce auth text text' r : Bytes) : Type 0 where
@@ -27,7 +27,7 @@ pub record Deciphered (x : Cipher) (key nonce auth received body body' : Bytes) 
   pub right : r ≡ is_some (x.decrypt key nonce auth received body)
   pub bytes : body' ≡ get_or (x.decrypt key nonce auth received body) body
 
--- ____ messages
+-- ---- messages
 
 -- lengths that 2 and 3 let pass
 pub record Sized (m : Bytes) : Type 0 where

@@ -1,9 +1,9 @@
 -- Right because one piece is the whole message.
 -- Assumes nothing.
 use Rattle.cmac.proofs.Beginning.{new_holds}
-use Rattle.cmac.proofs.AnyState.{takes-in, ends_with}
+use Rattle.cmac.proofs.AnyState.{takes_in, ends_with}
 use Rattle.cmac.proofs.cmac.Goals as goal
 
 pub returns : goal.returns
 returns c =
-    ends_with _ c.finish.ensures (takes-in _ _ c.update.ensures (new_holds _ c.new.ensures _))
+    ends_with _ c.finish.ensures (takes_in _ _ c.update.ensures (new_holds _ c.new.ensures _))

@@ -4,7 +4,7 @@ use mathlib.Core.Path.{◌≡◌, sym}
 use native.Mathlib.Omega.{arith}
 use lib.ListN.{length}
 use lib.Seq.{length-take-le}
-use Rattle.fold_pieces.proofs.HeadLaws.{head-is}
+use Rattle.fold_pieces.proofs.HeadLaws.{head_is}
 use Rattle.fold_pieces.proofs.head_with.Goals as goal
 
 pub slice_bounds-copy-end-2 : goal.slice_bounds-copy-end-2
@@ -24,4 +24,4 @@ returns c =
     let n = c.at_most-n in
     let at = c.at_most-at in
     let a = c.args in
-    head-is a.head a.piece.now a.joined at.ensures n.ensures c.copy.ensures
+    head_is a.head a.piece.now a.joined at.ensures n.ensures c.copy.ensures

@@ -4,7 +4,7 @@ use mathlib.Core.List.{List, ◌++◌}
 use lib.ListN.{length, replicate}
 use Prim.Native.Nat.{ℕ, ◌+◌}
 use borrow.Author.Rules.{rules}
-use Rattle.octets.proofs.Pairs.{block-is}
+use Rattle.octets.proofs.Pairs.{block_is}
 use Rattle.octets.proofs.Paste.{two_runs}
 use Rattle.ghash.proofs.element_block.Goals as goal
 
@@ -16,4 +16,4 @@ returns c =
     two_runs (replicate 16 0) c.u64_bytes-a.result c.u64_bytes-b.result c.copy.new.dst _ 8 la (ap (λ (n : ℕ). 8 + n) (sym lb))
     c.copy.ensures c.copy-2.ensures
     ∙ ap₂ (λ (x y : List ℕ). x ++ y) c.u64_bytes-a.ensures c.u64_bytes-b.ensures
-    ∙ block-is e.hi e.lo (search rules)
+    ∙ block_is e.hi e.lo (search rules)

@@ -2,7 +2,7 @@
 -- Assumes nothing.
 use mathlib.Core.Path.{refl}
 use Rattle.lab_state.specs.Reading.{state_of}
-use Rattle.lab_rules.proofs.StepLaws.{step_0, step-1, step_2, step-3, three}
+use Rattle.lab_rules.proofs.StepLaws.{step_0, step_1, step_2, step_3, three}
 use Rattle.lab_steps.proofs.step.Goals as goal
 
 pub returns-then-kind-eq0 : goal.returns-then-kind-eq0
@@ -13,7 +13,7 @@ returns-then-kind-eq0 c = λ h.
 pub returns-then-kind-eq1 : goal.returns-then-kind-eq1
 returns-then-kind-eq1 c = λ h.
     let a = c.args in
-    step-1 a.kind a.from_server a.payload.now _ (state_of a.from) _ _ c.if-kind-eq0.false c.if-kind-eq1.true
+    step_1 a.kind a.from_server a.payload.now _ (state_of a.from) _ _ c.if-kind-eq0.false c.if-kind-eq1.true
     c.setup.ensures refl
 
 pub returns-then-kind-eq2 : goal.returns-then-kind-eq2
@@ -28,4 +28,4 @@ returns c = λ h.
     let n0 = c.if-kind-eq0.false in
     let n1 = c.if-kind-eq1.false in
     let n2 = c.if-kind-eq2.false in
-    step-3 a.kind a.from_server a.payload.now _ (state_of a.from) _ _ n0 n1 n2 (c.added.ensures (h (three a.kind n0 n1 n2))) refl
+    step_3 a.kind a.from_server a.payload.now _ (state_of a.from) _ _ n0 n1 n2 (c.added.ensures (h (three a.kind n0 n1 n2))) refl

@@ -2,7 +2,7 @@
 -- Assumes nothing.
 use mathlib.Core.Bool.{not}
 use mathlib.Core.Path.{ap}
-use Rattle.preauth.proofs.FoldLaws.{refused_40, refused_23, left_out, folded-in, fold_tests_lem, fold_leaves, fold_puts, limits}
+use Rattle.preauth.proofs.FoldLaws.{refused_40, refused_23, left_out, folded_in, fold_tests_lem, fold_leaves, fold_puts, limits}
 use Rattle.protocol.specs.Calls.{folding, only_chain}
 use Rattle.octets.proofs.Paste.{paste_all}
 use borrow.Author.Tests.{not-true, not-false}
@@ -52,4 +52,4 @@ returns c =
     let m = a.message.now in
     λ kind agrees.
     let b = sym (agrees fits) ∙ not-false _ (ap not c.if-not-allowed.false) in
-    folded-in (folding kind m) (only_chain v) kind m (fold_tests_lem kind v m) c.if-chain-ne64.false fits _ b (fold_puts kind v m _ b value)
+    folded_in (folding kind m) (only_chain v) kind m (fold_tests_lem kind v m) c.if-chain-ne64.false fits _ b (fold_puts kind v m _ b value)

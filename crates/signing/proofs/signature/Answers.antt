@@ -11,9 +11,9 @@ use Rattle.octets.proofs.Paste.{part_all}
 use Rattle.aes.specs.BlockCipher.{block_cipher, expanded_key}
 use Rattle.cmac.specs.Cmac as rfc4493
 use Rattle.cmac.proofs.Beginning.{new_holds}
-use Rattle.cmac.proofs.AnyState.{takes-in, ends_with}
+use Rattle.cmac.proofs.AnyState.{takes_in, ends_with}
 use Rattle.protocol.specs.Signing.{with_signature, signature_under}
-use Rattle.protocol.proofs.SuiteLaws.{cmac-is}
+use Rattle.protocol.proofs.SuiteLaws.{cmac_is}
 use Rattle.signing.proofs.SigningLaws.{taken_in}
 use Rattle.signing.proofs.signature.Goals as goal
 
@@ -34,8 +34,8 @@ returns c =
     let same_key : c.expand_key-keys.result ≡ expanded_key key =
     c.expand_key-keys.ensures ∙ ap expanded_key (c.bytes_16.ensures ∙ take_all 16 key (le_of_eq c.requires.0)) in
     let begun = new_holds _ c.new.ensures E in
-    ends_with _ c.finish.ensures (takes-in _ _ c.update-2.ensures (takes-in _ _ c.update.ensures begun))
+    ends_with _ c.finish.ensures (takes_in _ _ c.update-2.ensures (takes_in _ _ c.update.ensures begun))
     ∙ ap (rfc4493.cmac E)
     (taken_in m c.copy.new.dst _ (length-take-le 48 m (omega (arith, c.requires.1))) c.copy.ensures (part_all m 64))
     ∙ ap (λ (k : List (List ℕ)). rfc4493.cmac (block_cipher k) (with_signature (replicate 16 0) m)) same_key
-    ∙ sym (cmac-is key (with_signature (replicate 16 0) m))
+    ∙ sym (cmac_is key (with_signature (replicate 16 0) m))

@@ -16,7 +16,7 @@ loop-p-preserved c =
     let here = c.loop-p-test.true in
     let cut = c.cut_at-c.ensures in
     elim c.if-c.branch [
-        then-c w ↦ rw (w.kept-is, w.gaps-is) (measure_kept e f l.p l.kept l.gaps l.invariant here _ cut w.if-c.true)
+      | then-c w ↦ rw (w.kept-is, w.gaps-is) (measure_kept e f l.p l.kept l.gaps l.invariant here _ cut w.if-c.true)
       | else-c w ↦ rw (w.kept-is, w.gaps-is) (measure_dropped e f l.p l.kept l.gaps l.invariant here _ cut w.if-c.false)
     ]
 

@@ -6,7 +6,7 @@ use lib.Seq.{paste}
 use Prim.Native.Nat.{ℕ}
 use mathlib.Core.List.{List}
 use mathlib.Core.Path.{ap, ◌∙◌}
-use Rattle.trace_writer.proofs.WriteLaws.{head-other, head-wide, head-not-held, head-written}
+use Rattle.trace_writer.proofs.WriteLaws.{head-other, head-wide, head_not_held, head-written}
 use Rattle.trace_writer.proofs.write_file_head.Goals as goal
 
 pub returns-then-edition-ne-WRITTEN : goal.returns-then-edition-ne-WRITTEN
@@ -22,7 +22,7 @@ returns-then-cipher-ge256 c =
 pub returns-then-room-lt4 : goal.returns-then-room-lt4
 returns-then-room-lt4 c =
     let a = c.args in
-    head-not-held a.edition a.dialect a.cipher a.room.now c.if-room-lt4.true
+    head_not_held a.edition a.dialect a.cipher a.room.now c.if-room-lt4.true
 
 pub returns : goal.returns
 unfolding file_head_bytes

@@ -7,7 +7,7 @@ use Rattle.trace_format.specs.Records.{written_edition}
 use lib.ListN.{length}
 use Prim.Native.Nat.{◌+◌, ◌≤◌}
 use native.Mathlib.Omega.{arith}
-use Rattle.trace_writer.proofs.WriteLaws.{record_not-read, record_not-held, record_written, record_admitted, record_inside}
+use Rattle.trace_writer.proofs.WriteLaws.{record_not_read, record_not_held, record_written, record_admitted, record_inside}
 use Rattle.trace_writer.proofs.write_record.Goals as goal
 
 pub returns-then-not-admits : goal.returns-then-not-admits
@@ -15,7 +15,7 @@ returns-then-not-admits c =
     let a = c.args in
     let e = edition_of written_edition in
     let said = c.admits.ensures e c.layout_of.ensures in
-    record_not-read e a.kind a.from_server a.payload.now a.room.now a.at _ said (ap not c.if-not-admits.true)
+    record_not_read e a.kind a.from_server a.payload.now a.room.now a.at _ said (ap not c.if-not-admits.true)
 
 pub returns-then-not-holds : goal.returns-then-not-holds
 returns-then-not-holds c =
@@ -23,7 +23,7 @@ returns-then-not-holds c =
     let e = edition_of written_edition in
     let said = c.admits.ensures e c.layout_of.ensures in
     let inside = c.holds.ensures in
-    record_not-held e a.kind a.from_server a.payload.now a.room.now a.at _ said _ inside (ap not c.if-not-holds.true)
+    record_not_held e a.kind a.from_server a.payload.now a.room.now a.at _ said _ inside (ap not c.if-not-holds.true)
 
 pub head_bytes-head-requires : goal.head_bytes-head-requires
 head_bytes-head-requires c =

@@ -6,7 +6,7 @@ use native.Mathlib.Omega.{arith}
 use lib.ListN.{get_or}
 use mir.Syntax.{w8}
 use mir.Val.{Fits}
-use Rattle.cmac.proofs.Doubling.{doubled-is}
+use Rattle.cmac.proofs.Doubling.{doubled_is}
 use borrow.Author.Rules.{rules}
 use Rattle.cmac.proofs.last.double.Goals as goal
 
@@ -14,4 +14,4 @@ pub overflow_mul-r : goal.overflow_mul-r
 overflow_mul-r c = let f = (let it : get_or c.args.x 0 0 < 256 = let f : Fits w8 (get_or c.args.x 0 0) = search rules in f.fits in it) in omega arith
 
 pub returns : goal.returns
-returns c = doubled-is c.args.x c.shifted-r.result _ c.shifted-r.ensures ((let it : get_or c.args.x 0 0 < 256 = let f : Fits w8 (get_or c.args.x 0 0) = search rules in f.fits in it)) refl
+returns c = doubled_is c.args.x c.shifted-r.result _ c.shifted-r.ensures ((let it : get_or c.args.x 0 0 < 256 = let f : Fits w8 (get_or c.args.x 0 0) = search rules in f.fits in it)) refl

@@ -3,8 +3,8 @@
 use Rattle.std.proofs.Common.{◌≡◌, ◌%◌, length, take, sym, ◌∙◌, arith, lit<, length-take-le}
 use lib.ListN.{length-map}
 use Rattle.sha_2.specs.Sha256.{sha256}
-use Rattle.sha_2.proofs.Streaming.{length_part, holds-end}
-use Rattle.sha256.proofs.LowBits.{same-padding}
+use Rattle.sha_2.proofs.Streaming.{length_part, holds_end}
+use Rattle.sha256.proofs.LowBits.{same_padding}
 use Rattle.sha256.proofs.Sha256.finish.Goals as goal
 
 pub slice_bounds-buffer-end : goal.slice_bounds-buffer-end
@@ -29,5 +29,5 @@ returns c =
     let t = c.padded-t in
     let e = c.padded_length-end in
     λ m s.
-    holds-end sha256 t.result e.result (lit< tt) (same-padding (length m) s.counted) t.ensures
+    holds_end sha256 t.result e.result (lit< tt) (same_padding (length m) s.counted) t.ensures
     (omega (arith, t.type_inv.1.0.1, e.ensures.2)) e.ensures.1 c.hash_blocks.ensures c.digest.ensures s

@@ -2,8 +2,8 @@
 -- Assumes nothing.
 use Rattle.std.proofs.Common.{refl}
 use Rattle.sha_2.specs.Sha256.{sha256}
-use Rattle.sha_2.proofs.Streaming.{holds-start}
+use Rattle.sha_2.proofs.Streaming.{holds_start}
 use Rattle.sha256.proofs.Sha256.new.Goals as goal
 
 pub returns : goal.returns
-returns c = holds-start sha256 _ c.initial_hash_value-hash.result refl c.initial_hash_value-hash.ensures
+returns c = holds_start sha256 _ c.initial_hash_value-hash.result refl c.initial_hash_value-hash.ensures

@@ -3,7 +3,7 @@
 use Rattle.std.proofs.Common.{◌≡◌, length, sym, ◌∙◌, arith, lit<, length-take-le}
 use lib.ListN.{length-map}
 use Rattle.sha_2.specs.Sha256.{sha256}
-use Rattle.sha_2.proofs.Streaming.{holds-within, holds-beyond}
+use Rattle.sha_2.proofs.Streaming.{holds_within, holds_beyond}
 use Rattle.sha256.proofs.Sha256.update.Goals as goal
 
 pub copy-requires : goal.copy-requires
@@ -14,7 +14,7 @@ returns-then-piece-room c =
     let t = c.if-piece-room.true in
     let n = c.wrapping_add_u64-count.ensures.value in
     let a = c.args in
-    λ m s. holds-within sha256 a.piece.now n (omega (arith, n, t)) (omega (arith, t)) c.copy.ensures c.buffer-then-piece-room-2-1.given s
+    λ m s. holds_within sha256 a.piece.now n (omega (arith, n, t)) (omega (arith, t)) c.copy.ensures c.buffer-then-piece-room-2-1.given s
 
 pub slice_bounds-copy-end-3 : goal.slice_bounds-copy-end-3
 slice_bounds-copy-end-3 c =
@@ -30,5 +30,5 @@ returns c =
     let n = c.wrapping_add_u64-count.ensures.value in
     let a = c.args in
     λ m s.
-    holds-beyond sha256 a.piece.now (lit< tt) n (omega (arith, n, c.if-piece-room.false)) c.if-piece-room.false c.copy-2.ensures c.buffer-3-1.given
+    holds_beyond sha256 a.piece.now (lit< tt) n (omega (arith, n, c.if-piece-room.false)) c.if-piece-room.false c.copy-2.ensures c.buffer-3-1.given
     c.hash_blocks-first.ensures c.hash_blocks.ensures c.copy-3.ensures c.buffer-6-1.given s

@@ -11,9 +11,9 @@ returns c =
     let read = c.read_in-read.ensures in
     record {
       number = c.read_number.ensures ∙ ap reading_number read;
-      its-place = c.next_to.ensures ∙ ap (λ (x : Reading). next_to x a.at.now) read;
-      its-kind = c.kind_to.ensures ∙ ap (λ (x : Reading). kind_to x a.kind.now) read;
+      its_place = c.next_to.ensures ∙ ap (λ (x : Reading). next_to x a.at.now) read;
+      its_kind = c.kind_to.ensures ∙ ap (λ (x : Reading). kind_to x a.kind.now) read;
       its_direction = c.from_server_to.ensures ∙ ap (λ (x : Reading). from_server_to x a.from_server.now) read;
-      its-payload = c.payload_to.ensures ∙ ap (λ (x : Reading). payload_to x a.payload.now) read;
-      its-length = c.length_to.ensures ∙ ap (λ (x : Reading). length_to x a.payload_len.now) read;
+      its_payload = c.payload_to.ensures ∙ ap (λ (x : Reading). payload_to x a.payload.now) read;
+      its_length = c.length_to.ensures ∙ ap (λ (x : Reading). length_to x a.payload_len.now) read;
     }

@@ -12,6 +12,6 @@ returns c =
     record {
       number = c.head_number.ensures ∙ ap file_number read;
       its_edition = c.edition_to.ensures ∙ ap (λ (x : FileReading). edition_to x a.edition.now) read;
-      its-dialect = c.dialect_to.ensures ∙ ap (λ (x : FileReading). dialect_to x a.dialect.now) read;
-      its-cipher = c.cipher_to.ensures ∙ ap (λ (x : FileReading). cipher_to x a.cipher.now) read;
+      its_dialect = c.dialect_to.ensures ∙ ap (λ (x : FileReading). dialect_to x a.dialect.now) read;
+      its_cipher = c.cipher_to.ensures ∙ ap (λ (x : FileReading). cipher_to x a.cipher.now) read;
     }

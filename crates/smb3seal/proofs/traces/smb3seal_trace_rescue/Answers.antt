@@ -12,6 +12,6 @@ returns c =
       number = c.rescue_number.ensures ∙ ap rescue_number done.answer;
       bytes = done.bytes;
       listed = done.gaps;
-      its-size = c.written_to.ensures ∙ ap (λ (x : Rescued). written_to x a.written.now) done.answer;
-      its-count = c.gaps_to.ensures ∙ ap (λ (x : Rescued). gaps_to x a.count.now) done.answer;
+      its_size = c.written_to.ensures ∙ ap (λ (x : Rescued). written_to x a.written.now) done.answer;
+      its_count = c.gaps_to.ensures ∙ ap (λ (x : Rescued). gaps_to x a.count.now) done.answer;
     }
