@@ -63,7 +63,8 @@ pub fn read_file_head(b: &[u8]) -> FileHead
     let h = u32_at(b, 0);
     let edition = (h / 16777216) as u8;
     let l = layout_of(edition);
-    if l.longest == 0 {
+    let unknown = l.longest == 0;
+    if unknown {
         return FileHead::Unreadable;
     }
     FileHead::Good {
