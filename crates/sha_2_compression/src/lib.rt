@@ -6,7 +6,7 @@ mod sha256;
 mod sha512;
 mod word;
 
-pub use word::Word;
+pub use word::{Algorithm, Word};
 
 ghost use Rattle.std.specs.Prelude.{◌≡◌, ◌/◌, length, take, map};
 ghost use Rattle.sha_2.specs.Sha2 as sha2;
@@ -16,17 +16,17 @@ ghost use Rattle.sha_2_compression.specs.Code.{of};
 use crate::rounds::{Working, first_rounds, last_rounds};
 
 // The sixteen words of a block (§5.2.1, §5.2.2).
-fn parse<W: Word<ROUNDS>, const ROUNDS: usize>(w: &mut [W; ROUNDS], block: &[u8])
+fn parse<W: Algorithm<ROUNDS, BLOCK>, const ROUNDS: usize, const BLOCK: usize>(w: &mut [W; ROUNDS], block: &[u8])
     requires { length block.now ≡ block_size W.family }
     ensures { take 16 (map W.value w.new) ≡ sha2.parse W.family 16 block.now }
 {
     for i in 0..16 {
-        w[i] = W::word_at(block, i * W::BYTES);
+        w[i] = W::word_at(block, i * (BLOCK / 16));
     }
 }
 
 // Step 2.
-fn working<W: Word<ROUNDS>, const ROUNDS: usize>(hs: &[W; 8]) -> Working<W>
+fn working<W: Word>(hs: &[W; 8]) -> Working<W>
     ensures { of W.value result ≡ sha2.working (map W.value hs.now) }
 {
     Working {
@@ -42,7 +42,7 @@ fn working<W: Word<ROUNDS>, const ROUNDS: usize>(hs: &[W; 8]) -> Working<W>
 }
 
 // Step 4.
-fn sums<W: Word<ROUNDS>, const ROUNDS: usize>(hs: &[W; 8], v: Working<W>) -> [W; 8]
+fn sums<W: Word>(hs: &[W; 8], v: Working<W>) -> [W; 8]
     ensures { map W.value result ≡ sha2.sums W.family (map W.value hs.now) (of W.value v) }
 {
     let a = v.a.add(hs[0]);
@@ -57,7 +57,7 @@ fn sums<W: Word<ROUNDS>, const ROUNDS: usize>(hs: &[W; 8], v: Working<W>) -> [W;
 }
 
 // The constants are bound here, where every index is known once the rounds are inlined: then they are operands, and no array is written.
-fn compress<W: Word<ROUNDS>, const ROUNDS: usize>(hs: [W; 8], block: &[u8]) -> [W; 8]
+fn compress<W: Algorithm<ROUNDS, BLOCK>, const ROUNDS: usize, const BLOCK: usize>(hs: [W; 8], block: &[u8]) -> [W; 8]
     requires { length block.now ≡ block_size W.family }
     ensures { map W.value result ≡ sha2.compress W.family (map W.value hs) block.now }
 {
@@ -69,11 +69,11 @@ fn compress<W: Word<ROUNDS>, const ROUNDS: usize>(hs: [W; 8], block: &[u8]) -> [
 }
 
 // The whole blocks of m.
-pub fn hash_blocks<W: Word<ROUNDS>, const ROUNDS: usize>(hs: [W; 8], m: &[u8]) -> [W; 8]
+pub fn hash_blocks<W: Algorithm<ROUNDS, BLOCK>, const ROUNDS: usize, const BLOCK: usize>(hs: [W; 8], m: &[u8]) -> [W; 8]
     ensures { map W.value result ≡ sha2.hash_blocks W.family (map W.value hs) (length m.now / block_size W.family) m.now }
 {
     let mut h = hs;
-    for block in m.chunks_exact(16 * W::BYTES) {
+    for block in m.chunks_exact(BLOCK) {
         h = compress(h, block);
     }
     h

@@ -4,7 +4,7 @@ ghost use Rattle.sha_2.specs.Sha2 as sha2;
 ghost use Rattle.sha_2.specs.Running.{Goes};
 ghost use Rattle.sha_2_compression.specs.Code.{of};
 
-use crate::word::Word;
+use crate::word::{Algorithm, Word};
 
 // The eight working variables.
 #[derive(Clone, Copy)]
@@ -19,25 +19,25 @@ pub struct Working<W> {
     pub h: W,
 }
 
-fn schedule_word<W: Word<ROUNDS>, const ROUNDS: usize>(w16: W, w15: W, w7: W, w2: W) -> W
+fn schedule_word<W: Word>(w16: W, w15: W, w7: W, w2: W) -> W
     ensures { W.value result ≡ sha2.schedule_word W.family (W.value w16) (W.value w15) (W.value w7) (W.value w2) }
 {
     w2.small_sigma1().add(w7).add(w15.small_sigma0()).add(w16)
 }
 
-fn t1<W: Word<ROUNDS>, const ROUNDS: usize>(v: Working<W>, k: W, w: W) -> W
+fn t1<W: Word>(v: Working<W>, k: W, w: W) -> W
     ensures { W.value result ≡ sha2.t1 W.family (W.value k) (W.value w) (of W.value v) }
 {
     v.h.add(v.e.big_sigma1()).add(v.e.ch(v.f, v.g)).add(k).add(w)
 }
 
-fn t2<W: Word<ROUNDS>, const ROUNDS: usize>(v: Working<W>) -> W
+fn t2<W: Word>(v: Working<W>) -> W
     ensures { W.value result ≡ sha2.t2 W.family (of W.value v) }
 {
     v.a.big_sigma0().add(v.a.maj(v.b, v.c))
 }
 
-fn round<W: Word<ROUNDS>, const ROUNDS: usize>(v: Working<W>, k: W, w: W) -> Working<W>
+fn round<W: Word>(v: Working<W>, k: W, w: W) -> Working<W>
     ensures { of W.value result ≡ sha2.round W.family (W.value k) (W.value w) (of W.value v) }
 {
     let t1 = t1(v, k, w);
@@ -57,7 +57,7 @@ fn round<W: Word<ROUNDS>, const ROUNDS: usize>(v: Working<W>, k: W, w: W) -> Wor
 }
 
 // Round j, and the word of the schedule sixteen places on.
-fn scheduled_round<W: Word<ROUNDS>, const ROUNDS: usize>(
+fn scheduled_round<W: Algorithm<ROUNDS, BLOCK>, const ROUNDS: usize, const BLOCK: usize>(
     v: Working<W>,
     w: &mut [W; ROUNDS],
     k: &[W; ROUNDS],
@@ -71,7 +71,7 @@ fn scheduled_round<W: Word<ROUNDS>, const ROUNDS: usize>(
 }
 
 // Rounds j and j + 1.
-fn two_rounds<W: Word<ROUNDS>, const ROUNDS: usize>(
+fn two_rounds<W: Algorithm<ROUNDS, BLOCK>, const ROUNDS: usize, const BLOCK: usize>(
     v: Working<W>,
     w: &mut [W; ROUNDS],
     k: &[W; ROUNDS],
@@ -85,7 +85,7 @@ fn two_rounds<W: Word<ROUNDS>, const ROUNDS: usize>(
 }
 
 // Four rounds from round j on.
-fn four_rounds<W: Word<ROUNDS>, const ROUNDS: usize>(
+fn four_rounds<W: Algorithm<ROUNDS, BLOCK>, const ROUNDS: usize, const BLOCK: usize>(
     v: Working<W>,
     w: &mut [W; ROUNDS],
     k: &[W; ROUNDS],
@@ -99,7 +99,7 @@ fn four_rounds<W: Word<ROUNDS>, const ROUNDS: usize>(
 }
 
 // Eight rounds, after which each variable has been in all places: inlined, none is moved.
-fn eight_rounds<W: Word<ROUNDS>, const ROUNDS: usize>(
+fn eight_rounds<W: Algorithm<ROUNDS, BLOCK>, const ROUNDS: usize, const BLOCK: usize>(
     v: Working<W>,
     w: &mut [W; ROUNDS],
     k: &[W; ROUNDS],
@@ -113,7 +113,7 @@ fn eight_rounds<W: Word<ROUNDS>, const ROUNDS: usize>(
 }
 
 // The rounds that the schedule is still to be extended in.
-pub fn first_rounds<W: Word<ROUNDS>, const ROUNDS: usize>(
+pub fn first_rounds<W: Algorithm<ROUNDS, BLOCK>, const ROUNDS: usize, const BLOCK: usize>(
     s: Working<W>,
     w: &mut [W; ROUNDS],
     k: &[W; ROUNDS],
@@ -130,7 +130,7 @@ pub fn first_rounds<W: Word<ROUNDS>, const ROUNDS: usize>(
 }
 
 // Rounds j and j + 1, once the schedule is complete.
-fn two_last_rounds<W: Word<ROUNDS>, const ROUNDS: usize>(
+fn two_last_rounds<W: Algorithm<ROUNDS, BLOCK>, const ROUNDS: usize, const BLOCK: usize>(
     v: Working<W>,
     w: &[W; ROUNDS],
     k: &[W; ROUNDS],
@@ -145,7 +145,7 @@ fn two_last_rounds<W: Word<ROUNDS>, const ROUNDS: usize>(
 }
 
 // The last sixteen rounds, without a loop: an index that varies would keep the constants in an array, written out for each block.
-pub fn last_rounds<W: Word<ROUNDS>, const ROUNDS: usize>(
+pub fn last_rounds<W: Algorithm<ROUNDS, BLOCK>, const ROUNDS: usize, const BLOCK: usize>(
     s: Working<W>,
     w: &[W; ROUNDS],
     k: &[W; ROUNDS],

@@ -3,7 +3,7 @@ ghost use Rattle.std.proofs.Common.{lit<};
 ghost use Rattle.sha_2.specs.Sha256.{sha256};
 ghost use Rattle.sha_2_compression.specs.Sizes.{sizes256};
 
-use crate::word::Word;
+use crate::word::{Algorithm, Word};
 use big_endian::{u32_at, u32_bytes};
 use runs::copy;
 
@@ -18,25 +18,10 @@ const K: [u32; 64] = [
     0x748f82ee, 0x78a5636f, 0x84c87814, 0x8cc70208, 0x90befffa, 0xa4506ceb, 0xbef9a3f7, 0xc67178f2,
 ];
 
-impl Word<64> for u32 {
+impl Word for u32 {
     ghost value = { λ x. x };
 
     ghost family = { sha256 };
-
-    ghost BYTES = { 4 };
-
-    const BYTES: usize = 4;
-
-    fn round_constants() -> [u32; 64] {
-        K
-    }
-
-    fn initial_hash_value() -> [u32; 8] {
-        [
-            0x6a09e667, 0xbb67ae85, 0x3c6ef372, 0xa54ff53a, 0x510e527f, 0x9b05688c, 0x1f83d9ab,
-            0x5be0cd19,
-        ]
-    }
 
     fn add(self, other: u32) -> u32 {
         self.wrapping_add(other)
@@ -73,8 +58,21 @@ impl Word<64> for u32 {
     fn store(self, out: &mut [u8], at: usize) {
         copy(out, at, &u32_bytes(self));
     }
+}
 
-    ghost small = { lit< tt };
+impl Algorithm<64, 64> for u32 {
+    fn round_constants() -> [u32; 64] {
+        K
+    }
+
+    fn initial_hash_value() -> [u32; 8] {
+        [
+            0x6a09e667, 0xbb67ae85, 0x3c6ef372, 0xa54ff53a, 0x510e527f, 0x9b05688c, 0x1f83d9ab,
+            0x5be0cd19,
+        ]
+    }
 
     ghost sizes = { sizes256 };
+
+    ghost small = { lit< tt };
 }

@@ -3,7 +3,7 @@ ghost use Rattle.std.proofs.Common.{lit<};
 ghost use Rattle.sha_2.specs.Sha512.{sha512};
 ghost use Rattle.sha_2_compression.specs.Sizes.{sizes512};
 
-use crate::word::Word;
+use crate::word::{Algorithm, Word};
 use big_endian::{u64_at, u64_bytes};
 use runs::copy;
 
@@ -90,31 +90,10 @@ const K: [u64; 80] = [
     0x6c44198c4a475817,
 ];
 
-impl Word<80> for u64 {
+impl Word for u64 {
     ghost value = { λ x. x };
 
     ghost family = { sha512 };
-
-    ghost BYTES = { 8 };
-
-    const BYTES: usize = 8;
-
-    fn round_constants() -> [u64; 80] {
-        K
-    }
-
-    fn initial_hash_value() -> [u64; 8] {
-        [
-            0x6a09e667f3bcc908,
-            0xbb67ae8584caa73b,
-            0x3c6ef372fe94f82b,
-            0xa54ff53a5f1d36f1,
-            0x510e527fade682d1,
-            0x9b05688c2b3e6c1f,
-            0x1f83d9abfb41bd6b,
-            0x5be0cd19137e2179,
-        ]
-    }
 
     fn add(self, other: u64) -> u64 {
         self.wrapping_add(other)
@@ -151,8 +130,27 @@ impl Word<80> for u64 {
     fn store(self, out: &mut [u8], at: usize) {
         copy(out, at, &u64_bytes(self));
     }
+}
 
-    ghost small = { lit< tt };
+impl Algorithm<80, 128> for u64 {
+    fn round_constants() -> [u64; 80] {
+        K
+    }
+
+    fn initial_hash_value() -> [u64; 8] {
+        [
+            0x6a09e667f3bcc908,
+            0xbb67ae8584caa73b,
+            0x3c6ef372fe94f82b,
+            0xa54ff53a5f1d36f1,
+            0x510e527fade682d1,
+            0x9b05688c2b3e6c1f,
+            0x1f83d9abfb41bd6b,
+            0x5be0cd19137e2179,
+        ]
+    }
 
     ghost sizes = { sizes512 };
+
+    ghost small = { lit< tt };
 }

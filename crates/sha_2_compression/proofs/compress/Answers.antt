@@ -4,16 +4,16 @@ use Rattle.sha_2.proofs.Rounds.{compressed}
 use Rattle.sha_2_compression.proofs.compress.Goals as goal
 
 pub round_constants-k-requires : goal.round_constants-k-requires
-round_constants-k-requires g c = g.met.W.Word.small
+round_constants-k-requires g c = g.met.W.Algorithm.small
 
 pub parse-requires : goal.parse-requires
-parse-requires g c = (g.met.W.Word.small, c.requires)
+parse-requires g c = (g.met.W.Algorithm.small, c.requires)
 
 pub first_rounds-v-requires : goal.first_rounds-v-requires
-first_rounds-v-requires g c = (g.met.W.Word.small, c.round_constants-k.ensures)
+first_rounds-v-requires g c = (g.met.W.Algorithm.small, c.round_constants-k.ensures)
 
 pub last_rounds-requires : goal.last_rounds-requires
-last_rounds-requires g c = (g.met.W.Word.small, c.round_constants-k.ensures)
+last_rounds-requires g c = (g.met.W.Algorithm.small, c.round_constants-k.ensures)
 
 pub returns : goal.returns
 returns g c =

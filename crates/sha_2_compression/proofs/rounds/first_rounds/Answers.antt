@@ -9,12 +9,12 @@ loop-i-init g c =
     let value = g.W.Word.value in
     let a = c.args in
     first-start g.W.Word.family (map value a.w.now) (map value a.k.now) (of value a.s)
-    (length-map a.w.now value ∙ c.told-w ∙ g.met.W.Word.sizes.schedule) c.requires
+    (length-map a.w.now value ∙ c.told-w ∙ g.met.W.Algorithm.sizes.schedule) c.requires
 
 pub loop-i-preserved : goal.loop-i-preserved
 loop-i-preserved g c =
     let value = g.W.Word.value in
-    let s = g.met.W.Word.sizes in
+    let s = g.met.W.Algorithm.sizes in
     let a = c.args in
     let f = c.eight_rounds-v in
     let next : 8 * c.loop-i.i + 8 ≡ 8 * (c.loop-i.i + 1) = omega arith in
@@ -24,6 +24,6 @@ loop-i-preserved g c =
 
 pub returns : goal.returns
 returns g c =
-    let s = g.met.W.Word.sizes in
+    let s = g.met.W.Algorithm.sizes in
     let e = first-end g.W.Word.family c.loop-i.invariant (omega (arith, c.loop-i-test.false, s.schedule, s.eighths)) in
     (e.1, e.2)
