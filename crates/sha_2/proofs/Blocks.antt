@@ -44,6 +44,17 @@ module _ (p : Sha2) where
       ∙ ap (λ (i : ℕ). compress p (hash_blocks p hs n a) (bytes_at i (block_size p) block)) (zero-mul (block_size p))
       ∙ ap (λ (x : List ℕ). compress p (hash_blocks p hs n a) x) (take_all (block_size p) block (le_of_eq l))
 
+  -- two blocks are one and one
+  pub one_and_one : (hs a b : List ℕ) → 0 < block_size p → length a ≡ block_size p → length b ≡ block_size p
+      → hash_blocks p hs (length (a ++ b) / block_size p) (a ++ b) ≡ hash_blocks p (hash_blocks p hs (length a / block_size p) a) (length b / block_size p) b
+  one_and_one hs a b pos la lb =
+      let B = block_size p in
+      let two : length (a ++ b) / B ≡ 2 = ap (λ (n : ℕ). n / B) (length-append a b ∙ omega (arith, la, lb)) ∙ mul-div_cancel 2 pos in
+      let one : (x : List ℕ) → length x ≡ B → length x / B ≡ 1 = λ x l. ap (λ (n : ℕ). n / B) (l ∙ omega arith) ∙ mul-div_cancel 1 pos in
+      ap (λ (n : ℕ). hash_blocks p hs n (a ++ b)) two
+      ∙ blocks-append hs 1 1 a b (omega (arith, la))
+      ∙ ap₂ (λ (i j : ℕ). hash_blocks p (hash_blocks p hs i a) j b) (sym (one a la)) (sym (one b lb))
+
   -- bytes more of a message
   pub hashed-more : {hs part m : List ℕ} (x : List ℕ) → Hashed p hs part m → Hashed p hs (part ++ x) (m ++ x)
   hashed-more {hs} {part} {m} x s =

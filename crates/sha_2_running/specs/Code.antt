@@ -1,6 +1,8 @@
--- trial
-use Rattle.std.specs.Prelude.{ℕ, List, map}
+-- The code's running state, with its words by their numbers, for its contracts.
+-- Assumes nothing.
+use Rattle.std.specs.Prelude.{ℕ, map}
+use Rattle.sha_2.specs.Running.{State}
 use Rattle.sha_2_running.specs.declared.Running.{Running}
 
-abbrev pub t : {W : Type 0} → (W → ℕ) → Running W → List ℕ
-t value s = map value s.hash
+abbrev pub state : {W : Type 0} {rounds block : ℕ} → (W → ℕ) → Running W rounds block → State
+state value s = record { hash = map value s.hash; buffer = s.buffer; count = s.count }
