@@ -1,12 +1,9 @@
 -- Right because the test is the one of the definition.
--- Assumes nothing.
-use Prim.Native.Nat.{ℕ}
-use mathlib.Core.Path.{sym, ap, ◌∙◌}
-use mathlib.Core.List.{List}
+use Rattle.std.proofs.Common.{ℕ, List, sym, ap, ◌∙◌}
 use borrow.Author.Tests.{le-leb, lt-leb}
 use Rattle.octets.specs.Blocks.{zero_padded}
 use Rattle.hmac.specs.Hmac.{key_block}
-use Rattle.hmac.proofs.key.key_block.Goals as goal
+use Rattle.hmac.proofs.key_block.Goals as goal
 
 pub returns-then-key-le64 : goal.returns-then-key-le64
 unfolding key_block
@@ -16,5 +13,5 @@ pub returns : goal.returns
 unfolding key_block
 returns c =
     c.zero_padded-2.ensures
-    ∙ ap (λ (l : List ℕ). zero_padded 64 l) c.hash-h.ensures
+    ∙ ap (λ (l : List ℕ). zero_padded 64 l) c.hash.ensures
     ∙ sym (simp (lt-leb _ _ c.if-key-le64.false))
