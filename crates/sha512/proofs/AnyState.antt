@@ -32,13 +32,15 @@ unfolding updated
 updated_holds s m x h = any.updated_holds sha512 (lit< tt) wraps (state s) m x h
 
 -- the same of what the code hands back
-pub takes_in : (s : Sha512) (x : List ℕ) {s' : Sha512} {m : List ℕ} → s' ≡ updated s x → Holds s m → Holds s' (m ++ x)
-takes_in s x {s'} {m} e h = subst (λ (t : Sha512). Holds t (m ++ x)) (sym e) (updated_holds s m x h)
+pub takes_in : (s : Sha512) (x : List ℕ) {s' : Sha512} {m : List ℕ}
+    → code.state (λ (y : ℕ). y) s' ≡ running.updated sha512 (code.state (λ (y : ℕ). y) s) x → Holds s m → Holds s' (m ++ x)
+takes_in s x {s'} {m} e h = subst (λ (t : Sha512). Holds t (m ++ x)) (sym (is_updated s x s' e)) (updated_holds s m x h)
 
 -- and it ends
 pub finished_is : (s : Sha512) (m : List ℕ) → Holds s m → length m < 2 ^ 64 → finished s ≡ hash sha512 m
 unfolding finished
 finished_is s m h l = any.finished_is sha512 (lit< tt) wraps (state s) m h (ap (padding sha512) (h.counted ∙ mod-eq_of_lt l))
 
-pub ends_with : (s : Sha512) {m r : List ℕ} → r ≡ finished s → Holds s m → length m < 2 ^ 64 → r ≡ hash sha512 m
-ends_with s {m} e h l = e ∙ finished_is s m h l
+pub ends_with : (s : Sha512) {m r : List ℕ} → r ≡ running.finished sha512 (code.state (λ (y : ℕ). y) s) → Holds s m → length m < 2 ^ 64
+    → r ≡ hash sha512 m
+ends_with s {m} e h l = is_finished s e ∙ finished_is s m h l
