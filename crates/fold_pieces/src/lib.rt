@@ -121,7 +121,7 @@ impl FoldState {
             return Answer::Done(0);
         }
         let hash = self.hash;
-        let value: [u8; 64] = hash.finish();
+        let value = hash.finish();
         copy(chain, 0, &value);
         Answer::Done(1)
     }

@@ -52,7 +52,7 @@ impl Mac {
     pub fn finish(self) -> [u8; 32]
         ensures { (key m : List ℕ) → Holds self key m → result ≡ spec.hmac sha256 key m }
     {
-        let digest: [u8; 32] = self.inner.finish();
+        let digest = self.inner.finish();
         self.outer.update(&digest).finish()
     }
 }

@@ -7,7 +7,7 @@ use Rattle.sha_2_running.specs.declared.Running.{Running}
 
 -- a word is a number
 abbrev pub Sha256 : Type 0
-Sha256 = Running ℕ 64 64
+Sha256 = Running ℕ 64 64 32
 
 -- s has taken in the bytes m
 abbrev pub Holds : Sha256 → List ℕ → Type 0

@@ -8,7 +8,7 @@ use Rattle.sha_2_running.specs.declared.Running.{Running}
 
 -- a word is a number
 abbrev pub Sha512 : Type 0
-Sha512 = Running ℕ 80 128
+Sha512 = Running ℕ 80 128 64
 
 -- the fields as the definitions have them, and back
 abbrev pub state : Sha512 → State

@@ -14,15 +14,17 @@ use sha_2_compression::{Algorithm, hash_blocks};
 // The hash value after the whole blocks, the bytes past them, and how many bytes there were, modulo 2^64.
 #[repr(C)]
 #[derive(Clone, Copy)]
-pub struct Running<W, const ROUNDS: usize, const BLOCK: usize> {
+pub struct Running<W, const ROUNDS: usize, const BLOCK: usize, const DIGEST: usize> {
     hash: [W; 8],
     buffer: [u8; BLOCK],
     count: u64,
 }
 
-impl<W: Algorithm<ROUNDS, BLOCK>, const ROUNDS: usize, const BLOCK: usize> Running<W, ROUNDS, BLOCK> {
+impl<W: Algorithm<ROUNDS, BLOCK>, const ROUNDS: usize, const BLOCK: usize, const DIGEST: usize>
+    Running<W, ROUNDS, BLOCK, DIGEST>
+{
     // Nothing taken in yet.
-    pub fn new() -> Running<W, ROUNDS, BLOCK>
+    pub fn new() -> Running<W, ROUNDS, BLOCK, DIGEST>
         ensures { state W.value result ≡ nothing_taken W.family }
     {
         Running {
@@ -33,7 +35,7 @@ impl<W: Algorithm<ROUNDS, BLOCK>, const ROUNDS: usize, const BLOCK: usize> Runni
     }
 
     // The piece follows what was taken in: from a state that holds m to one that holds m and the piece.
-    pub fn update(self, piece: &[u8]) -> Running<W, ROUNDS, BLOCK>
+    pub fn update(self, piece: &[u8]) -> Running<W, ROUNDS, BLOCK, DIGEST>
         ensures { state W.value result ≡ updated W.family (state W.value self) piece.now }
     {
         let waiting = (self.count % BLOCK as u64) as usize;
@@ -61,7 +63,7 @@ impl<W: Algorithm<ROUNDS, BLOCK>, const ROUNDS: usize, const BLOCK: usize> Runni
     }
 
     // The hash of what the state holds. The length that the padding has is that of the count: of a message of 2^64 bytes or more its low 64 bits.
-    pub fn finish<const DIGEST: usize>(self) -> [u8; DIGEST]
+    pub fn finish(self) -> [u8; DIGEST]
         requires { DIGEST ≡ 8 * W.family.bytes }
         ensures { result ≡ finished W.family (state W.value self) }
     {
