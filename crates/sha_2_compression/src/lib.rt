@@ -6,17 +6,19 @@ mod sha256;
 mod sha512;
 mod word;
 
-pub use word::{Algorithm, Word};
-
 ghost use Rattle.std.specs.Prelude.{◌≡◌, ◌/◌, length, take, map};
 ghost use Rattle.sha_2.specs.Sha2 as sha2;
 ghost use Rattle.sha_2.specs.Sha2.{block_size};
 ghost use Rattle.sha_2_compression.specs.Code.{of};
 
 use crate::rounds::{Working, first_rounds, last_rounds};
+pub use word::{Algorithm, Word};
 
 // The sixteen words of a block (§5.2.1, §5.2.2).
-fn parse<W: Algorithm<ROUNDS, BLOCK>, const ROUNDS: usize, const BLOCK: usize>(w: &mut [W; ROUNDS], block: &[u8])
+fn parse<W: Algorithm<ROUNDS, BLOCK>, const ROUNDS: usize, const BLOCK: usize>(
+    w: &mut [W; ROUNDS],
+    block: &[u8],
+)
     requires { length block.now ≡ block_size W.family }
     ensures { take 16 (map W.value w.new) ≡ sha2.parse W.family 16 block.now }
 {
@@ -45,19 +47,23 @@ fn working<W: Word>(hs: &[W; 8]) -> Working<W>
 fn sums<W: Word>(hs: &[W; 8], v: Working<W>) -> [W; 8]
     ensures { map W.value result ≡ sha2.sums W.family (map W.value hs.now) (of W.value v) }
 {
-    let a = v.a.add(hs[0]);
-    let b = v.b.add(hs[1]);
-    let c = v.c.add(hs[2]);
-    let d = v.d.add(hs[3]);
-    let e = v.e.add(hs[4]);
-    let f = v.f.add(hs[5]);
-    let g = v.g.add(hs[6]);
-    let h = v.h.add(hs[7]);
-    [a, b, c, d, e, f, g, h]
+    [
+        v.a.add(hs[0]),
+        v.b.add(hs[1]),
+        v.c.add(hs[2]),
+        v.d.add(hs[3]),
+        v.e.add(hs[4]),
+        v.f.add(hs[5]),
+        v.g.add(hs[6]),
+        v.h.add(hs[7]),
+    ]
 }
 
 // The constants are bound here, where every index is known once the rounds are inlined: then they are operands, and no array is written.
-fn compress<W: Algorithm<ROUNDS, BLOCK>, const ROUNDS: usize, const BLOCK: usize>(hs: [W; 8], block: &[u8]) -> [W; 8]
+fn compress<W: Algorithm<ROUNDS, BLOCK>, const ROUNDS: usize, const BLOCK: usize>(
+    hs: [W; 8],
+    block: &[u8],
+) -> [W; 8]
     requires { length block.now ≡ block_size W.family }
     ensures { map W.value result ≡ sha2.compress W.family (map W.value hs) block.now }
 {
@@ -69,7 +75,10 @@ fn compress<W: Algorithm<ROUNDS, BLOCK>, const ROUNDS: usize, const BLOCK: usize
 }
 
 // The whole blocks of m.
-pub fn hash_blocks<W: Algorithm<ROUNDS, BLOCK>, const ROUNDS: usize, const BLOCK: usize>(hs: [W; 8], m: &[u8]) -> [W; 8]
+pub fn hash_blocks<W: Algorithm<ROUNDS, BLOCK>, const ROUNDS: usize, const BLOCK: usize>(
+    hs: [W; 8],
+    m: &[u8],
+) -> [W; 8]
     ensures { map W.value result ≡ sha2.hash_blocks W.family (map W.value hs) (length m.now / block_size W.family) m.now }
 {
     let mut h = hs;

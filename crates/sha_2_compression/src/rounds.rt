@@ -28,7 +28,10 @@ fn schedule_word<W: Word>(w16: W, w15: W, w7: W, w2: W) -> W
 fn t1<W: Word>(v: Working<W>, k: W, w: W) -> W
     ensures { W.value result ≡ sha2.t1 W.family (W.value k) (W.value w) (of W.value v) }
 {
-    v.h.add(v.e.big_sigma1()).add(v.e.ch(v.f, v.g)).add(k).add(w)
+    v.h.add(v.e.big_sigma1())
+        .add(v.e.ch(v.f, v.g))
+        .add(k)
+        .add(w)
 }
 
 fn t2<W: Word>(v: Working<W>) -> W

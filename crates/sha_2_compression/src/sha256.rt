@@ -4,7 +4,7 @@ ghost use Rattle.sha_2.specs.Sha256.{sha256};
 ghost use Rattle.sha_2_compression.specs.Sizes.{sizes256};
 
 use crate::word::{Algorithm, Word};
-use big_endian::{u32_at, u32_bytes};
+use big_endian::{number_at, to_bytes};
 use runs::copy;
 
 const K: [u32; 64] = [
@@ -52,11 +52,11 @@ impl Word for u32 {
     }
 
     fn word_at(block: &[u8], at: usize) -> u32 {
-        u32_at(block, at)
+        number_at::<4>(block, at) as u32
     }
 
     fn store(self, out: &mut [u8], at: usize) {
-        copy(out, at, &u32_bytes(self));
+        copy(out, at, &to_bytes::<4>(u64::from(self)));
     }
 }
 

@@ -4,7 +4,7 @@ ghost use Rattle.sha_2.specs.Sha512.{sha512};
 ghost use Rattle.sha_2_compression.specs.Sizes.{sizes512};
 
 use crate::word::{Algorithm, Word};
-use big_endian::{u64_at, u64_bytes};
+use big_endian::{number_at, to_bytes};
 use runs::copy;
 
 const K: [u64; 80] = [
@@ -124,11 +124,11 @@ impl Word for u64 {
     }
 
     fn word_at(block: &[u8], at: usize) -> u64 {
-        u64_at(block, at)
+        number_at::<8>(block, at)
     }
 
     fn store(self, out: &mut [u8], at: usize) {
-        copy(out, at, &u64_bytes(self));
+        copy(out, at, &to_bytes::<8>(self));
     }
 }
 

@@ -20,9 +20,12 @@ pub struct Running<W, const ROUNDS: usize, const BLOCK: usize, const DIGEST: usi
     count: u64,
 }
 
-impl<W: Algorithm<ROUNDS, BLOCK>, const ROUNDS: usize, const BLOCK: usize, const DIGEST: usize>
-    Running<W, ROUNDS, BLOCK, DIGEST>
-{
+impl<
+    W: Algorithm<ROUNDS, BLOCK>,
+    const ROUNDS: usize,
+    const BLOCK: usize,
+    const DIGEST: usize,
+> Running<W, ROUNDS, BLOCK, DIGEST> {
     // Nothing taken in yet.
     pub fn new() -> Running<W, ROUNDS, BLOCK, DIGEST>
         ensures { state W.value result ≡ nothing_taken W.family }

@@ -17,9 +17,10 @@ compress-h-requires g c =
 pub loop-block-preserved : goal.loop-block-preserved
 loop-block-preserved g c =
     let n = c.in-Some.ensures.steps in
-    let size = c.loop-block.invariant.1 in
-    (taking_turn g.W.Word.family c.in-Some.block.now c.loop-block.invariant.0 n.1.0 (n.1.1 ∙ size ∙ g.met.W.Algorithm.sizes.block) c.compress-h.ensures,
-    n.0 ∙ size)
+    let size = c.loop-block.invariant.1 in (
+      taking_turn g.W.Word.family c.in-Some.block.now c.loop-block.invariant.0 n.1.0 (n.1.1 ∙ size ∙ g.met.W.Algorithm.sizes.block) c.compress-h.ensures,
+      n.0 ∙ size,
+    )
 
 pub returns : goal.returns
 returns g c =

@@ -9,7 +9,21 @@ unfolding sums
 returns g c =
     let l = c.told-hs in
     let at = get_or-map g.W.Word.value c.args.hs.now in
-    rw (c.add-a.ensures, c.add-b.ensures, c.add-c.ensures, c.add-d.ensures, c.add-e.ensures, c.add-f.ensures, c.add-g.ensures, c.add-h.ensures,
-    at 0 c.index-hs-0.result 0 (omega arith), at 1 c.index-hs-1.result 0 (omega arith), at 2 c.index-hs-2.result 0 (omega arith),
-    at 3 c.index-hs-3.result 0 (omega arith), at 4 c.index-hs-4.result 0 (omega arith), at 5 c.index-hs-5.result 0 (omega arith),
-    at 6 c.index-hs-6.result 0 (omega arith), at 7 c.index-hs-7.result 0 (omega arith))
+    rw (
+      c.add.ensures,
+      c.add-2.ensures,
+      c.add-3.ensures,
+      c.add-4.ensures,
+      c.add-5.ensures,
+      c.add-6.ensures,
+      c.add-7.ensures,
+      c.add-8.ensures,
+      at 0 c.index-hs-0.result 0 (omega arith),
+      at 1 c.index-hs-1.result 0 (omega arith),
+      at 2 c.index-hs-2.result 0 (omega arith),
+      at 3 c.index-hs-3.result 0 (omega arith),
+      at 4 c.index-hs-4.result 0 (omega arith),
+      at 5 c.index-hs-5.result 0 (omega arith),
+      at 6 c.index-hs-6.result 0 (omega arith),
+      at 7 c.index-hs-7.result 0 (omega arith),
+    )

@@ -9,6 +9,13 @@ unfolding working
 returns g c =
     let l = c.told-hs in
     let at = get_or-map g.W.Word.value c.args.hs.now in
-    rw (at 0 c.index-hs-0.result 0 (omega arith), at 1 c.index-hs-1.result 0 (omega arith), at 2 c.index-hs-2.result 0 (omega arith),
-    at 3 c.index-hs-3.result 0 (omega arith), at 4 c.index-hs-4.result 0 (omega arith), at 5 c.index-hs-5.result 0 (omega arith),
-    at 6 c.index-hs-6.result 0 (omega arith), at 7 c.index-hs-7.result 0 (omega arith))
+    rw (
+      at 0 c.index-hs-0.result 0 (omega arith),
+      at 1 c.index-hs-1.result 0 (omega arith),
+      at 2 c.index-hs-2.result 0 (omega arith),
+      at 3 c.index-hs-3.result 0 (omega arith),
+      at 4 c.index-hs-4.result 0 (omega arith),
+      at 5 c.index-hs-5.result 0 (omega arith),
+      at 6 c.index-hs-6.result 0 (omega arith),
+      at 7 c.index-hs-7.result 0 (omega arith),
+    )
