@@ -9,7 +9,7 @@ ghost use Rattle.protocol.specs.Suite.{kdf};
 ghost use Rattle.derived_keys.specs.Reading.{stored};
 
 use blocks::block_at;
-use kdf::{derive_16, derive_32};
+use kdf::derive;
 
 // A cipher key of 16 bytes has zeros behind it.
 #[derive(Clone, Copy)]
@@ -34,10 +34,10 @@ fn cipher_key(wide: bool, material: &[u8], label: &[u8], context: &[u8]) -> [u8;
     ensures { result ≡ zero_padded 32 (kdf (cipher_key_bytes wide) (cipher_material wide material.now) label.now context.now) }
 {
     if wide {
-        return derive_32(material, label, context);
+        return derive::<32>(material, label, context);
     }
     let session_key = block_at(material, 0);
-    padded(derive_16(&session_key, label, context))
+    padded(derive::<16>(&session_key, label, context))
 }
 
 // 3.1.1: the context is the chain value.
@@ -45,8 +45,8 @@ fn keys_311(wide: bool, chain: &[u8], material: &[u8]) -> Keys
     ensures { result ≡ stored (keys311 kdf wide chain.now material.now) }
 {
     let key = block_at(material, 0);
-    let signing = derive_16(&key, b"SMBSigningKey\0", chain);
-    let application = derive_16(&key, b"SMBAppKey\0", chain);
+    let signing = derive::<16>(&key, b"SMBSigningKey\0", chain);
+    let application = derive::<16>(&key, b"SMBAppKey\0", chain);
     let client_to_server = cipher_key(wide, material, b"SMBC2SCipherKey\0", chain);
     let server_to_client = cipher_key(wide, material, b"SMBS2CCipherKey\0", chain);
     Keys {
@@ -62,8 +62,8 @@ fn keys_300(material: &[u8]) -> Keys
     ensures { result ≡ stored (keys300 kdf material.now) }
 {
     let key = block_at(material, 0);
-    let signing = derive_16(&key, b"SMB2AESCMAC\0", b"SmbSign\0");
-    let application = derive_16(&key, b"SMB2APP\0", b"SmbRpc\0");
+    let signing = derive::<16>(&key, b"SMB2AESCMAC\0", b"SmbSign\0");
+    let application = derive::<16>(&key, b"SMB2APP\0", b"SmbRpc\0");
     let client_to_server = cipher_key(false, material, b"SMB2AESCCM\0", b"ServerIn \0");
     let server_to_client = cipher_key(false, material, b"SMB2AESCCM\0", b"ServerOut\0");
     Keys {

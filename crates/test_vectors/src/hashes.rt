@@ -92,9 +92,9 @@ pub fn kdf(line: &[u8], wide: bool) {
 
 fn show_derived(key: &[u8], label: &[u8], context: &[u8], wide: bool) {
     if wide {
-        let derived = kdf::derive_32(key, label, context);
+        let derived = kdf::derive::<32>(key, label, context);
         test_lines::show(&derived);
     } else {
-        test_lines::show_16(kdf::derive_16(key, label, context));
+        test_lines::show_16(kdf::derive::<16>(key, label, context));
     }
 }

@@ -10,7 +10,7 @@ returns c =
     let m = c.args.material.now in
     let key = c.block_at-key.ensures in
     same_keys _ _
-    (key_is _ _ m smb2_aes_cmac smb_sign key c.derive_16-signing.ensures)
-    (key_is _ _ m smb2_app smb_rpc key c.derive_16-application.ensures)
+    (key_is _ _ m smb2_aes_cmac smb_sign key c.derive-signing.ensures)
+    (key_is _ _ m smb2_app smb_rpc key c.derive-application.ensures)
     c.cipher_key-client_to_server.ensures
     c.cipher_key-server_to_client.ensures

@@ -11,7 +11,7 @@ returns c =
     let v = c.args.chain.now in
     let key = c.block_at-key.ensures in
     same_keys _ _
-    (key_is _ _ m smb_signing_key v key c.derive_16-signing.ensures)
-    (key_is _ _ m smb_app_key v key c.derive_16-application.ensures)
+    (key_is _ _ m smb_signing_key v key c.derive-signing.ensures)
+    (key_is _ _ m smb_app_key v key c.derive-application.ensures)
     c.cipher_key-client_to_server.ensures
     c.cipher_key-server_to_client.ensures
