@@ -1,17 +1,15 @@
 -- Laws of counter mode: it keeps the length, undoes itself, and goes on block by block.
--- Assumes nothing.
 use mathlib.Core.Path.{◌≡◌, sym, ap, ap₂, ◌∙◌}
-use mathlib.Core.List.{List, ◌++◌}
-use Prim.Native.Nat.{ℕ, ◌+◌, ◌-◌, ◌*◌, ◌/◌, ◌%◌, ◌<◌, ◌≤◌}
+use mathlib.Core.List.{List}
+use Prim.Native.Nat.{ℕ, ◌+◌, ◌*◌, ◌/◌, ◌%◌, ◌<◌, ◌≤◌}
 use native.Mathlib.Nat.{zero-add}
 use native.Mathlib.Omega.{arith}
 use lib.ListN.{length, get_or, take, drop}
 use lib.Seq.{paste, drop-paste}
-use Rattle.octets.specs.Numbers.{to_big_endian}
 use Rattle.octets.specs.Xor.{xor_with, xor}
 use Rattle.octets.proofs.XorWith.{length-xor_with, xor_with_twice, drop-xor_with, take-xor_with}
 use Rattle.octets.proofs.Paste.{paste_more, paste_all}
-use Rattle.ctr.specs.Ctr.{ctr, counter_blocks}
+use Rattle.ctr.specs.Ctr.{ctr}
 
 module _ (E : List ℕ → List ℕ) (T : ℕ → List ℕ) where
   pub length-ctr : (text : List ℕ) → length (ctr E T text) ≡ length text
@@ -22,14 +20,15 @@ module _ (E : List ℕ → List ℕ) (T : ℕ → List ℕ) where
   unfolding ctr
   ctr_twice text = xor_with_twice (λ i. get_or (E (T (i / 16))) (i % 16) 0) 0 text
 
-  -- a turn of the loop: output block j goes onto the m bytes from i = 16 j
-  ctr_turn : (d : List ℕ) (i j m : ℕ) (ks buf out : List ℕ) → i ≤ length d → i ≡ 16 * j → m ≤ 16
+  -- a turn of the loop: output block j goes onto the m bytes from 16 j on
+  pub ctr_turn : (d : List ℕ) (j m : ℕ) (ks buf out : List ℕ) → 16 * j ≤ length d → m ≤ 16
       → ks ≡ E (T j)
-      → buf ≡ paste d 0 (ctr E T d) i
-      → out ≡ paste buf i (xor (drop i buf) ks) m
-      → out ≡ paste d 0 (ctr E T d) (i + m)
+      → buf ≡ paste d 0 (ctr E T d) (16 * j)
+      → out ≡ paste buf (16 * j) (xor (drop (16 * j) buf) ks) m
+      → out ≡ paste d 0 (ctr E T d) (16 * j + m)
   unfolding ctr
-  ctr_turn d i j m ks buf out hi ei hm ek eb eo =
+  ctr_turn d j m ks buf out hi hm ek eb eo =
+      let i : ℕ = 16 * j in
       let K : ℕ → ℕ = λ k. get_or (E (T (k / 16))) (k % 16) 0 in
       let f : ℕ → ℕ = λ k. get_or ks k 0 in
       let s : List ℕ = xor_with K 0 d in
@@ -55,14 +54,3 @@ module _ (E : List ℕ → List ℕ) (T : ℕ → List ℕ) where
   ctr-end d i buf hi eb =
       let l = length-ctr d in
       eb ∙ ap (paste d 0 (ctr E T d)) (hi ∙ sym l) ∙ paste_all d 0 (ctr E T d) (omega arith)
-
--- the same turn, where the counter block is that of number n
-pub counter_turn : (E : List ℕ → List ℕ) (prefix : List ℕ) (first n : ℕ) (d : List ℕ) (i m : ℕ) (ks buf out : List ℕ) → first ≤ n
-    → i ≤ length d → i ≡ 16 * (n - first) → m ≤ 16
-    → ks ≡ E (prefix ++ to_big_endian 4 n)
-    → buf ≡ paste d 0 (ctr E (counter_blocks prefix first) d) i
-    → out ≡ paste buf i (xor (drop i buf) ks) m
-    → out ≡ paste d 0 (ctr E (counter_blocks prefix first) d) (i + m)
-counter_turn E prefix first n d i m ks buf out hn hi ei hm ek =
-    let e : n ≡ first + (n - first) = omega arith in
-    ctr_turn E (counter_blocks prefix first) d i (n - first) m ks buf out hi ei hm (ek ∙ ap (λ (k : ℕ). E (prefix ++ to_big_endian 4 k)) e)

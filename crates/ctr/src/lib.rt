@@ -2,10 +2,11 @@
 #![tactic(auto)]
 
 ghost use Rattle.std.specs.Prelude.{◌≡◌, ◌++◌, ◌+◌, ◌<◌, ◌^◌, length};
-ghost use Rattle.aes.specs.Tables.{SubMixTable};
 ghost use Rattle.octets.specs.Numbers.{to_big_endian};
-ghost use Rattle.aes.specs.Cipher.{cipher};
+ghost use Rattle.aes.specs.BlockCipher.{block_cipher};
 ghost use Rattle.ctr.specs.Ctr.{ctr, counter_blocks};
+
+use aes::Cipher;
 
 // The counter block of number n.
 pub fn counter_block(prefix: [u8; 12], n: u32) -> [u8; 16]
@@ -19,36 +20,19 @@ pub fn counter_block(prefix: [u8; 12], n: u32) -> [u8; 16]
 }
 
 // Xors the text with the key stream whose first counter is `first`.
-pub fn apply(
-    t: &[u32; 256],
-    keys: [[u8; 16]; 15],
-    rounds: usize,
-    prefix: [u8; 12],
-    first: u32,
-    text: &mut [u8],
-)
-    requires { SubMixTable t.now × (0 < rounds) × (rounds < 15) × (first + length text.old < 2 ^ 32) }
-    ensures { text.new ≡ ctr (cipher rounds keys) (counter_blocks prefix first) text.old }
+pub fn apply(cipher: &Cipher, prefix: [u8; 12], first: u32, text: &mut [u8])
+    requires { first + length text.old < 2 ^ 32 }
+    ensures { text.new ≡ ctr (block_cipher cipher.now) (counter_blocks prefix first) text.old }
 {
-    let mut i: usize = 0;
-    let mut n = first;
+    let whole = text.len() / 16;
     // Whole blocks: the count of 16 is fixed, so that a block is xored at once.
-    while 16 <= text.len() - i {
-        runs::xor_at(
-            text,
-            i,
-            16,
-            aes::encrypt_counter(t, keys, rounds, prefix, n),
-        );
-        i += 16;
-        n += 1;
+    for j in 0..whole {
+        let stream = cipher.encrypt_counter(prefix, first + j as u32);
+        runs::xor_at(text, 16 * j, 16, stream);
     }
-    if i < text.len() {
-        runs::xor_at(
-            text,
-            i,
-            text.len() - i,
-            aes::encrypt_counter(t, keys, rounds, prefix, n),
-        );
+    let left = text.len() % 16;
+    if 0 < left {
+        let stream = cipher.encrypt_counter(prefix, first + whole as u32);
+        runs::xor_at(text, 16 * whole, left, stream);
     }
 }

@@ -1,19 +1,19 @@
-// The tag (SP 800-38D, 7.1, steps 1, 2 and 4 to 6), with the cipher's table lent.
+// The tag (SP 800-38D, 7.1, steps 1, 2 and 4 to 6).
 ghost use Rattle.std.specs.Prelude.{◌≡◌, ℕ, ◌<◌, length};
-ghost use Rattle.aes.specs.Tables.{SubMixTable};
 ghost use Rattle.octets.specs.Numbers.{to_big_endian};
-ghost use Rattle.aes.specs.Cipher.{cipher};
+ghost use Rattle.aes.specs.BlockCipher.{block_cipher};
 ghost use Rattle.ghash.specs.Ghash.{ghash};
 ghost use Rattle.ghash.specs.Elements.{Prepared};
 ghost use Rattle.gcm.specs.Gcm.{hash_subkey, hash_input, tag};
 ghost use Rattle.gcm.specs.Clauses.{longest};
 
+use aes::Cipher;
+
 // Step 1: H, ready for GHASH.
-fn hash_subkey(t: &[u32; 256], keys: [[u8; 16]; 15], rounds: usize) -> ghash::HashKey
-    requires { SubMixTable t.now × (0 < rounds) × (rounds < 15) }
-    ensures { Prepared result (hash_subkey (cipher rounds keys)) }
+fn hash_subkey(cipher: &Cipher) -> ghash::HashKey
+    ensures { Prepared result (hash_subkey (block_cipher cipher.now)) }
 {
-    ghash::prepare(aes::encrypt_block(t, keys, rounds, [0u8; 16]))
+    ghash::prepare(cipher.encrypt_block([0u8; 16]))
 }
 
 // Step 5: S. The lengths are in bits.
@@ -28,20 +28,13 @@ fn hash(k: ghash::HashKey, aad: &[u8], body: &[u8]) -> [u8; 16]
 }
 
 // The tag of the ciphertext `body`.
-pub fn tag_with(
-    t: &[u32; 256],
-    keys: [[u8; 16]; 15],
-    rounds: usize,
-    nonce: [u8; 12],
-    aad: &[u8],
-    body: &[u8],
-) -> [u8; 16]
-    requires { SubMixTable t.now × (0 < rounds) × (rounds < 15) × (length aad.now < longest) × (length body.now < longest) }
-    ensures { result ≡ tag (cipher rounds keys) nonce aad.now body.now }
+pub fn tag(cipher: &Cipher, nonce: [u8; 12], aad: &[u8], body: &[u8]) -> [u8; 16]
+    requires { (length aad.now < longest) × (length body.now < longest) }
+    ensures { result ≡ tag (block_cipher cipher.now) nonce aad.now body.now }
 {
-    let k = hash_subkey(t, keys, rounds);
+    let k = hash_subkey(cipher);
     let s = hash(k, aad, body);
     // J₀ is the nonce and the number 1 (steps 2 and 6).
-    let e = aes::encrypt_counter(t, keys, rounds, nonce, 1);
+    let e = cipher.encrypt_counter(nonce, 1);
     runs::xor_16(s, e)
 }

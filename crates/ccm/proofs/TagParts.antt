@@ -1,5 +1,4 @@
 -- The tag, from what the code computes on the way.
--- Assumes nothing.
 use mathlib.Core.List.{List, ◌∷◌, ◌++◌}
 use mathlib.Core.Path.{◌≡◌, sym, ap, ap₂, ◌∙◌}
 use Prim.Native.Nat.{ℕ, suc, ◌+◌}
