@@ -10,7 +10,7 @@ ghost use Rattle.aes_words.specs.Words.{Bytes, state_of, bytes_of, byte0, byte1,
 
 use aes_tables::{Sbox, SubBytes};
 use aes_words::{Columns, load, store, turned, word};
-use arrays::bytes_16;
+use arrays::bytes_at;
 
 // The first bytes of Rcon: the powers of x.
 const RCON: [u8; 10] = [0x01, 0x02, 0x04, 0x08, 0x10, 0x20, 0x40, 0x80, 0x1b, 0x36];
@@ -73,9 +73,9 @@ fn own_keys(key: &[u8]) -> [[u8; 16]; 15]
     ensures long { length key.now ≡ 32 → result ≡ fifteen (take 16 key.now ∷ drop 16 key.now ∷ []) }
 {
     let mut keys = [[0u8; 16]; 15];
-    keys[0] = bytes_16(key, 0);
+    keys[0] = bytes_at(key, 0);
     if key.len() == 32 {
-        keys[1] = bytes_16(key, 16);
+        keys[1] = bytes_at(key, 16);
     }
     keys
 }

@@ -74,7 +74,7 @@ pub fn load(s: [u8; 16]) -> Columns
 pub fn load_counter(p: [u8; 12], n: u32) -> Columns
     ensures { state_of result ≡ p ++ to_big_endian 4 n }
 {
-    let c = big_endian::u32_bytes(n);
+    let c = big_endian::to_bytes::<4>(u64::from(n));
     Columns {
         c0: word_at(&p, 0),
         c1: word_at(&p, 4),

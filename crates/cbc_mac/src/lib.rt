@@ -13,7 +13,7 @@ use aes::Cipher;
 fn next(cipher: &Cipher, y: [u8; 16], x: [u8; 16]) -> [u8; 16]
     ensures { result ≡ block_cipher cipher.now (xor y x) }
 {
-    cipher.encrypt_block(runs::xor_16(y, x))
+    cipher.encrypt_block(runs::xor(y, x))
 }
 
 // The chain from y over the blocks of s, the last filled with zeros.
@@ -23,12 +23,11 @@ pub fn chain(cipher: &Cipher, y: [u8; 16], s: &[u8]) -> [u8; 16]
     let mut z = y;
     let whole = s.len() / 16;
     for j in 0..whole {
-        let after = next(cipher, z, arrays::bytes_16(s, 16 * j));
+        let after = next(cipher, z, arrays::bytes_at(s, 16 * j));
         z = after;
     }
-    let rest = &s[16 * whole..];
-    if rest.len() == 0 {
-        return z;
+    if 16 * whole < s.len() {
+        return next(cipher, z, blocks::zero_padded(&s[16 * whole..]));
     }
-    next(cipher, z, blocks::block_at(rest, 0))
+    z
 }

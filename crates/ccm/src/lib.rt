@@ -21,7 +21,7 @@ fn tag(cipher: &Cipher, nonce: [u8; 11], aad: [u8; 32], text: &[u8]) -> [u8; 16]
     let y1 = cbc_mac::chain(cipher, y0, &associated);
     let y = cbc_mac::chain(cipher, y1, text);
     let s0 = cipher.encrypt_counter(flags_and_nonce(3, nonce), 0);
-    runs::xor_16(y, s0)
+    runs::xor(y, s0)
 }
 
 // 6.1, steps 5 to 8: the text is xored with S₁, S₂, ..

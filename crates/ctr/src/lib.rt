@@ -12,11 +12,10 @@ use aes::Cipher;
 pub fn counter_block(prefix: [u8; 12], n: u32) -> [u8; 16]
     ensures { result ≡ prefix ++ to_big_endian 4 n }
 {
-    let c = big_endian::u32_bytes(n);
-    let mut b = [0u8; 16];
-    runs::copy(&mut b, 0, &prefix);
-    runs::copy(&mut b, 12, &c);
-    b
+    let mut block = [0u8; 16];
+    runs::copy(&mut block, 0, &prefix);
+    runs::copy(&mut block, 12, &big_endian::to_bytes::<4>(u64::from(n)));
+    block
 }
 
 // Xors the text with the key stream whose first counter is `first`.
@@ -25,14 +24,13 @@ pub fn apply(cipher: &Cipher, prefix: [u8; 12], first: u32, text: &mut [u8])
     ensures { text.new ≡ ctr (block_cipher cipher.now) (counter_blocks prefix first) text.old }
 {
     let whole = text.len() / 16;
-    // Whole blocks: the count of 16 is fixed, so that a block is xored at once.
+    // Whole blocks: the length of 16 is fixed, so that a block is xored at once.
     for j in 0..whole {
         let stream = cipher.encrypt_counter(prefix, first + j as u32);
-        runs::xor_at(text, 16 * j, 16, stream);
+        runs::xor_into(&mut text[16 * j..16 * j + 16], stream);
     }
-    let left = text.len() % 16;
-    if 0 < left {
+    if 16 * whole < text.len() {
         let stream = cipher.encrypt_counter(prefix, first + whole as u32);
-        runs::xor_at(text, 16 * whole, left, stream);
+        runs::xor_into(&mut text[16 * whole..], stream);
     }
 }

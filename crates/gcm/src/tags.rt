@@ -36,5 +36,5 @@ pub fn tag(cipher: &Cipher, nonce: [u8; 12], aad: &[u8], body: &[u8]) -> [u8; 16
     let s = hash(k, aad, body);
     // J₀ is the nonce and the number 1 (steps 2 and 6).
     let e = cipher.encrypt_counter(nonce, 1);
-    runs::xor_16(s, e)
+    runs::xor(s, e)
 }

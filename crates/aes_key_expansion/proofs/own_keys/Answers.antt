@@ -10,8 +10,8 @@ use Rattle.aes_key_expansion.specs.KeySizes.{fifteen}
 use Rattle.aes_key_expansion.proofs.KeyLengths.{at_least_16}
 use Rattle.aes_key_expansion.proofs.own_keys.Goals as goal
 
-pub bytes_16-requires : goal.bytes_16-requires
-bytes_16-requires c = at_least_16 _ c.requires
+pub bytes_at-requires : goal.bytes_at-requires
+bytes_at-requires c = (omega arith, at_least_16 _ c.requires)
 
 pub returns-then-key-eq32-clause-long : goal.returns-then-key-eq32-clause-long
 unfolding fifteen
@@ -19,10 +19,10 @@ returns-then-key-eq32-clause-long c =
     λ h.
     let key = c.args.key.now in
     let l = length-drop 16 key in
-    ap₂ (λ (a b : List ℕ). a ∷ b ∷ replicate 13 (replicate 16 0)) c.bytes_16.ensures
-    (c.bytes_16-then-key-eq32.ensures ∙ take_all 16 (drop 16 key) (omega arith))
+    ap₂ (λ (a b : List ℕ). a ∷ b ∷ replicate 13 (replicate 16 0)) c.bytes_at.ensures
+    (c.bytes_at-then-key-eq32.ensures ∙ take_all 16 (drop 16 key) (omega arith))
 
 pub returns-else-key-eq32-clause-short : goal.returns-else-key-eq32-clause-short
 unfolding fifteen
 returns-else-key-eq32-clause-short c =
-    λ h. ap (λ (a : List ℕ). a ∷ replicate 14 (replicate 16 0)) (c.bytes_16.ensures ∙ take_all 16 c.args.key.now (le_of_eq h))
+    λ h. ap (λ (a : List ℕ). a ∷ replicate 14 (replicate 16 0)) (c.bytes_at.ensures ∙ take_all 16 c.args.key.now (le_of_eq h))

@@ -4,4 +4,4 @@ use Rattle.aes.specs.BlockCipher.{block_cipher}
 use Rattle.cbc_mac.proofs.next.Goals as goal
 
 pub returns : goal.returns
-returns c = c.encrypt_block.ensures ∙ ap (block_cipher c.args.cipher.now) c.xor_16.ensures
+returns c = c.encrypt_block.ensures ∙ ap (block_cipher c.args.cipher.now) c.xor.ensures

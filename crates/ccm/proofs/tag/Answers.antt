@@ -19,4 +19,4 @@ returns c =
     (c.counter_block-first.ensures ∙ ap (λ (p : List ℕ). p ++ to_big_endian 4 (length a.text.now)) c.flags_and_nonce.ensures)
     c.with_length-associated.ensures c.chain-y0.ensures c.chain-y1.ensures c.chain-y.ensures
     (c.encrypt_counter-s0.ensures ∙ ap (λ (p : List ℕ). E (p ++ to_big_endian 4 0)) c.flags_and_nonce-2.ensures)
-    c.xor_16.ensures
+    c.xor.ensures
