@@ -1,6 +1,6 @@
 -- The two key sizes.
 use mathlib.Core.Bool.{Bool, true, false, ◌||◌}
-use mathlib.Core.Path.{◌≡◌, refl}
+use mathlib.Core.Path.{◌≡◌, refl, ap, ◌∙◌}
 use Prim.Native.Nat.{ℕ, ◌≤◌}
 use native.Mathlib.Omega.{arith}
 use borrow.Author.Tests.{eqb-true}
@@ -14,6 +14,9 @@ is_16 = refl
 pub is_32 : is_key_length 32 ≡ true
 unfolding is_key_length
 is_32 = refl
+
+pub of_length_16 : (n : ℕ) → n ≡ 16 → is_key_length n ≡ true
+of_length_16 n h = ap is_key_length h ∙ is_16
 
 either : {P : Type 0} (a b : Bool) → (a || b) ≡ true → (a ≡ true → P) → (b ≡ true → P) → P
 either true b h p q = p refl
