@@ -12,6 +12,7 @@ use Rattle.rijndael.proofs.Lengths.{length-expanded_key}
 use Rattle.rijndael.proofs.LongerKeys.{cipher_longer}
 use Rattle.aes_key_expansion.specs.KeySizes.{is_key_length, fifteen}
 use Rattle.aes_key_expansion.proofs.KeyLengths.{of_sizes}
+pub use Rattle.aes_key_expansion.proofs.KeyLengths.{is_16, is_32, of_length_16}
 
 -- what the cipher asks of a number of rounds
 pub some-rounds : (n : ℕ) → 0 < round_count n

@@ -1,6 +1,6 @@
 -- Right because the two pieces follow each other.
 -- Assumes nothing.
-use Rattle.aes.proofs.KeyLengths.{of_length_16}
+use Rattle.aes.proofs.KeySizeLaws.{of_length_16}
 use Rattle.cmac.proofs.Beginning.{new_holds}
 use Rattle.cmac.proofs.AnyState.{takes_in, ends_with}
 use Rattle.test_primitives.proofs.cmac_calls.cmac_sized.Goals as goal
