@@ -7,4 +7,4 @@ use Rattle.gcm.proofs.tags.tag.Goals as goal
 pub returns : goal.returns
 unfolding spec.tag
 returns c =
-    c.xor.ensures ∙ ap₂ xor (c.hash-s.ensures _ c.hash_subkey-k.ensures) c.encrypt_counter-e.ensures
+    c.xor.ensures ∙ ap₂ xor (rw (← c.hash_subkey-k.ensures) c.hash-s.ensures) c.encrypt_counter-e.ensures
