@@ -134,9 +134,9 @@ finish {own} {r} {key} {keys} x e = go x.is_own
         let n : r ≡ 15 = omega arith in
         finish_2 key keys x.places (let s = x.size in omega arith) (rw (o, n) at x.are) (rw n at x.rest)
 
-pub within : {own r : ℕ} {key : List ℕ} {keys : List (List ℕ)} → Expanding own r key keys → r < 4 * own + 7 → (own ≤ 2) × (r < 15)
+pub within : {own r : ℕ} {key : List ℕ} {keys : List (List ℕ)} → Expanding own r key keys → r < 4 * own + 7 → r < 15
 within {own} {r} {key} {keys} x h = go x.is_own
   where
-    go : IsOwn own → (own ≤ 2) × (r < 15)
-    go (inl e) = (omega arith, omega arith)
-    go (inr e) = (omega arith, omega arith)
+    go : IsOwn own → r < 15
+    go (inl e) = omega arith
+    go (inr e) = omega arith

@@ -6,12 +6,12 @@ pub loop-r-init : goal.loop-r-init
 loop-r-init c = start c.args.key.now _ c.requires c.own_keys-keys.ensures.short c.own_keys-keys.ensures.long
 
 pub round_key-requires : goal.round_key-requires
-round_key-requires c = (c.loop-r.invariant.is_own, omega arith, c.loop-r-test.true)
+round_key-requires c = (c.loop-r.invariant.is_own, omega arith, omega arith)
 
 pub loop-r-preserved : goal.loop-r-preserved
 loop-r-preserved c =
     let x = c.loop-r.invariant in
-    turn _ x (omega arith) (within x c.loop-r-test.true).1 c.round_key.ensures
+    turn _ x (omega arith) (within x (omega arith)) c.round_key.ensures
 
 pub returns : goal.returns
 returns c = finish c.loop-r.invariant (omega arith)

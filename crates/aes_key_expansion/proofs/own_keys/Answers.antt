@@ -11,7 +11,7 @@ use Rattle.aes_key_expansion.proofs.KeyLengths.{at_least_16}
 use Rattle.aes_key_expansion.proofs.own_keys.Goals as goal
 
 pub bytes_at-requires : goal.bytes_at-requires
-bytes_at-requires c = (omega arith, at_least_16 _ c.requires)
+bytes_at-requires c = let h = at_least_16 (length c.args.key.now) c.requires in (omega arith, omega arith)
 
 pub returns-then-key-eq32-clause-long : goal.returns-then-key-eq32-clause-long
 unfolding fifteen
