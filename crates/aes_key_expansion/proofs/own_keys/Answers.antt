@@ -4,7 +4,7 @@ use mathlib.Core.Path.{◌∙◌, ap, ap₂}
 use Prim.Native.Nat.{ℕ}
 use native.Mathlib.Nat.{le_of_eq}
 use native.Mathlib.Omega.{arith}
-use lib.ListN.{drop, replicate, length-drop}
+use lib.ListN.{length, drop, replicate, length-drop}
 use lib.Seq.{take_all}
 use Rattle.aes_key_expansion.specs.KeySizes.{fifteen}
 use Rattle.aes_key_expansion.proofs.KeyLengths.{at_least_16}
