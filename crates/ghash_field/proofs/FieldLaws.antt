@@ -160,3 +160,7 @@ product-terms n a b c d r eb ec ed er =
     ∙ ap₂ (λ (x y : ℕ). bit_xor (n / 8 % 2 * a) (bit_xor (n / 4 % 2 * x) y)) eb
     (ap₂ (λ (x y : ℕ). bit_xor (n / 2 % 2 * x) (bit_xor (n / 1 % 2 * y) 0)) cx dx)
     ∙ product_four n a
+
+-- 8 stands for the element 1
+pub one : (h : ℕ) → mul (four_bits 8) h ≡ h
+one h = sym (product-terms 8 h _ _ _ _ refl refl refl refl) ∙ simp (one-mul, zero-mul, xor_zero_r)

@@ -45,14 +45,13 @@ fn signature(key: &[u8], m: &[u8]) -> [u8; 16]
     requires { (length key.now ≡ 16) × (64 ≤ length m.now) }
     ensures { result ≡ signature_under suite.cmac key.now m.now }
 {
-    let t = aes::table();
-    let keys = aes::expand_key(bytes_16(key, 0));
+    let cipher = aes::Cipher::new(key);
     let mut header = [0u8; 64];
     copy(&mut header, 0, &m[..48]);
     Mac::new()
-        .update(&t, keys, &header)
-        .update(&t, keys, &m[64..])
-        .finish(&t, keys)
+        .update(&cipher, &header)
+        .update(&cipher, &m[64..])
+        .finish(&cipher)
 }
 
 // Signs the message in place: 40, 3, 11, 12. Refused, the message is as it was lent.

@@ -4,10 +4,12 @@
 mod header;
 
 ghost use Rattle.std.specs.Prelude.{◌≡◌, ◌+◌, ◌≤◌, ◌<◌, length};
+ghost use Rattle.aes.specs.BlockCipher.{expanded_key};
 ghost use Rattle.protocol.specs.Connection.{longest_message};
 ghost use Rattle.signing_pieces.specs.Running.{in_header, behind_header, joined_else, signature_from, no_message, step_with};
 ghost use Rattle.signing_pieces.specs.Clauses.{begin_step, piece_step, sign_number, sign_place, verify_number, Signs};
 
+use aes::Cipher;
 use answer::refuse;
 use arrays::bytes_16;
 use cmac::Mac;
@@ -80,20 +82,26 @@ pub fn begin(key: &[u8]) -> SignStep
 }
 
 impl SignState {
+    // The cipher under the message's key.
+    fn cipher(self) -> Cipher
+        ensures { result ≡ expanded_key self.key }
+    {
+        Cipher::new(&self.key)
+    }
+
     // The piece goes in behind the header.
     fn behind_header(self, piece: &[u8]) -> SignState
         requires { (64 ≤ self.length) × (self.length + length piece.now ≤ longest_message) }
         ensures { result ≡ behind_header self piece.now }
     {
-        let t = aes::table();
         let key = self.key;
         let header = self.header;
         let code = self.code;
-        let keys = aes::expand_key(key);
+        let cipher = self.cipher();
         SignState {
             key: key,
             header: header,
-            code: code.update(&t, keys, piece),
+            code: code.update(&cipher, piece),
             length: self.length + (piece.len() as u64),
             begun: self.begun,
         }
@@ -118,15 +126,14 @@ impl SignState {
                 begun: self.begun,
             };
         }
-        let t = aes::table();
-        let keys = aes::expand_key(key);
+        let cipher = self.cipher();
         let whole = filled(header, at, &piece[..room]);
         let signed = covered(whole);
-        let code = Mac::new().update(&t, keys, &signed);
+        let code = Mac::new().update(&cipher, &signed);
         SignState {
             key: key,
             header: whole,
-            code: code.update(&t, keys, &piece[room..]),
+            code: code.update(&cipher, &piece[room..]),
             length: self.length + (piece.len() as u64),
             begun: self.begun,
         }
@@ -158,11 +165,7 @@ impl SignState {
     fn signature(self) -> [u8; 16]
         ensures { result ≡ signature_from self }
     {
-        let t = aes::table();
-        let key = self.key;
-        let code = self.code;
-        let keys = aes::expand_key(key);
-        code.finish(&t, keys)
+        self.code.finish(&self.cipher())
     }
 
     // Writes the signature of the joined bytes: 40, 11, 12.

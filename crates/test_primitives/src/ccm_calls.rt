@@ -11,16 +11,8 @@ fn ctr_sized(key: &[u8], prefix: &[u8], first: u16, text: &mut [u8])
     requires { (is_key_length (length key.now) ≡ true) × (length prefix.now ≡ 12) × (length text.old < 2 ^ 32 - 2 ^ 17) }
     ensures { text.new ≡ ctr (aes key.now) (counter_blocks prefix.now first) text.old }
 {
-    let keys = aes::round_keys(key);
-    let t = aes::table();
-    ctr::apply(
-        &t,
-        keys,
-        aes::rounds(key),
-        arrays::bytes_12(prefix, 0),
-        first as u32,
-        text,
-    );
+    let cipher = aes::Cipher::new(key);
+    ctr::apply(&cipher, arrays::bytes_12(prefix, 0), first as u32, text);
 }
 
 #[unsafe(no_mangle)]

@@ -33,9 +33,7 @@ pub fn expand(line: &[u8]) {
 fn encrypt_sized(key: &[u8], block: [u8; 16])
     requires { is_key_length (length key.now) ≡ true }
 {
-    let t = aes::table();
-    let keys = aes::round_keys(key);
-    let out = aes::encrypt_block(&t, keys, aes::rounds(key), block);
+    let out = aes::Cipher::new(key).encrypt_block(block);
     test_lines::show(&out);
 }
 

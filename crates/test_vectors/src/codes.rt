@@ -7,7 +7,8 @@ pub fn cmac(line: &[u8]) {
     let k = test_lines::bytes(line, test_lines::after_space(line, 0), &mut key);
     let mut message = [0u8; 256];
     let m = test_lines::bytes(line, k.next, &mut message);
-    test_lines::show_16(cmac::cmac(aes::expand_key(key), test_lines::prefix(&message, m.len)));
+    let cipher = aes::Cipher::new(&key);
+    test_lines::show_16(cmac::cmac(&cipher, test_lines::prefix(&message, m.len)));
     test_lines::end_line();
 }
 
@@ -19,16 +20,15 @@ fn piece_end(at: usize, n: usize, len: usize) -> usize
     if len - at <= n { len } else { at + n + 1 }
 }
 
-fn show_pieces(keys: [[u8; 16]; 11], message: &[u8], n: usize) {
-    let t = aes::table();
+fn show_pieces(cipher: &aes::Cipher, message: &[u8], n: usize) {
     let mut running = cmac::Mac::new();
     let mut at: usize = 0;
     while at < message.len() {
         let end = piece_end(at, n, message.len());
-        running = running.update(&t, keys, &message[at..end]);
+        running = running.update(cipher, &message[at..end]);
         at = end;
     }
-    test_lines::show_16(running.finish(&t, keys));
+    test_lines::show_16(running.finish(cipher));
     test_lines::end_line();
 }
 
@@ -41,5 +41,9 @@ pub fn cmac_pieces(line: &[u8]) {
     let mut count = [0u8; 1];
     test_lines::bytes(line, m.next, &mut count);
     let n = test_lines::wide(count[0]);
-    show_pieces(aes::expand_key(key), test_lines::prefix(&message, m.len), n);
+    show_pieces(
+        &aes::Cipher::new(&key),
+        test_lines::prefix(&message, m.len),
+        n,
+    );
 }

@@ -61,9 +61,7 @@ fn ctr_under(key: &[u8], prefix: [u8; 12], first: u32, message: &mut [u8])
 fn ctr_sized(key: &[u8], prefix: [u8; 12], first: u32, message: &mut [u8])
     requires { (is_key_length (length key.now) ≡ true) × (length message.old ≤ 256) × (first < 4294966784) }
 {
-    let t = aes::table();
-    let keys = aes::round_keys(key);
-    ctr::apply(&t, keys, aes::rounds(key), prefix, first, message);
+    ctr::apply(&aes::Cipher::new(key), prefix, first, message);
     test_lines::show(message);
     test_lines::end_line();
 }

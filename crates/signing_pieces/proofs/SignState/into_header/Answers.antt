@@ -28,9 +28,9 @@ overflow_add-result-2 c =
 
 pub returns : goal.returns
 returns c =
-    let keys = c.expand_key-keys in
+    let cipher = c.cipher-cipher in
     let a = c.args in
     let piece = a.piece.now in
     let cut = 64 - a.self.length in
-    into_whole a.self piece c.if-piece-room.false c.filled-whole.ensures keys.ensures c.covered-signed.ensures
+    into_whole a.self piece c.if-piece-room.false c.filled-whole.ensures cipher.ensures c.covered-signed.ensures
     (part_all piece cut) c.new.ensures c.update-code.ensures c.update.ensures
