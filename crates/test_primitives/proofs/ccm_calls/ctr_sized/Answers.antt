@@ -4,5 +4,5 @@ use Rattle.test_primitives.proofs.ccm_calls.ctr_sized.Goals as goal
 
 pub returns : goal.returns
 returns c =
-    let p = whole 12 c.args.prefix.now _ c.requires.1 c.bytes_12.ensures in
-    rw (c.new-cipher.ensures, p) at c.apply.ensures
+    let p = whole 12 c.args.prefix.now _ c.requires.1 c.bytes_at.ensures in
+    rw (c.new-cipher.ensures, p, c.from.ensures) at c.apply.ensures
