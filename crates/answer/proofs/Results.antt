@@ -1,0 +1,60 @@
+-- Results of tests and of calls, read as numbers and answers.
+-- Assumes nothing.
+use Rattle.std.proofs.Common.{arith, ◌≡◌, refl, sym, ap, ◌∙◌, ℕ, Bool, true, false, cond, List, []}
+use Rattle.std.specs.Prelude.{Result, Ok, Err}
+use Rattle.protocol.specs.Answer as rules
+use Rattle.protocol.specs.Answer.{Test, first_of, judge, when_done, answer_number, is_refused}
+use Rattle.protocol.proofs.Judging.{NoneApplies, positive, refuses, passes}
+use Rattle.answer.specs.declared.refusal.Refusal.{Refusal}
+use Rattle.answer.specs.declared.refusal.Refusal.TheVariants.{NotEncrypting, TooShort, TooLong, NotTransform, BadFlags, OtherSession, Constrained}
+use Rattle.answer.specs.declared.refusal.Refusal.TheVariants.{Guest, BadTag, BadSize, InnerTooShort, NotHeader, FirstRelated, InnerSession, NextOutside}
+use Rattle.answer.specs.declared.refusal.Refusal.TheVariants.{NextUnaligned, CounterUsedUp, UnknownDialect, BadKeyMaterial, IdZero, IdTaken, TableFull}
+use Rattle.answer.specs.declared.refusal.Refusal.TheVariants.{FoldLength, NotSigned, BadSignature, DirtyNonce, OtherKeySize, BadLength}
+use Rattle.answer.specs.Reading.{number_of, number_in, answer_of, fold_answer_of}
+
+-- a refusal's number is never 0
+pub refusal_number : (why : Refusal) → number_of why ≡ 0 → ⊥
+refusal_number NotEncrypting e = omega arith
+refusal_number TooShort e = omega arith
+refusal_number TooLong e = omega arith
+refusal_number NotTransform e = omega arith
+refusal_number BadFlags e = omega arith
+refusal_number OtherSession e = omega arith
+refusal_number Constrained e = omega arith
+refusal_number Guest e = omega arith
+refusal_number BadTag e = omega arith
+refusal_number BadSize e = omega arith
+refusal_number InnerTooShort e = omega arith
+refusal_number NotHeader e = omega arith
+refusal_number FirstRelated e = omega arith
+refusal_number InnerSession e = omega arith
+refusal_number NextOutside e = omega arith
+refusal_number NextUnaligned e = omega arith
+refusal_number CounterUsedUp e = omega arith
+refusal_number UnknownDialect e = omega arith
+refusal_number BadKeyMaterial e = omega arith
+refusal_number IdZero e = omega arith
+refusal_number IdTaken e = omega arith
+refusal_number TableFull e = omega arith
+refusal_number FoldLength e = omega arith
+refusal_number NotSigned e = omega arith
+refusal_number BadSignature e = omega arith
+refusal_number DirtyNonce e = omega arith
+refusal_number OtherKeySize e = omega arith
+refusal_number BadLength e = omega arith
+
+pub numbered : (r : Result ℕ Refusal) → number_in r ≡ answer_number (answer_of r)
+numbered (Ok n) = refl
+numbered (Err why) = refl
+
+pub fold-numbered : (r : Result Bool Refusal) → number_in r ≡ answer_number (fold_answer_of r)
+fold-numbered (Ok b) = refl
+fold-numbered (Err why) = refl
+
+-- tests that let pass, and tests that refuse
+module _ {T : Type 0} (ts : List Test) (p : positive ts ≡ true) where
+  pub passed : (r : Result T Refusal) (x : T) → number_in r ≡ first_of ts → r ≡ Ok x → NoneApplies ts
+  passed r x e o = passes ts 0 p (sym (ap number_in o) ∙ e) refl
+
+  pub refuses_with : (r : Result T Refusal) (why : Refusal) (a : rules.Answer) → number_in r ≡ first_of ts → r ≡ Err why → judge ts a ≡ rules.refused (number_of why)
+  refuses_with r why a e o = refuses ts a (number_of why) (sym (ap number_in o) ∙ e) (refusal_number why)
