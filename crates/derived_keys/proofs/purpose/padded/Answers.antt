@@ -7,7 +7,7 @@ use native.Mathlib.Nat.{zero-add}
 use native.Mathlib.Omega.{arith}
 use lib.ListN.{length, take, drop, replicate}
 use Rattle.octets.proofs.BlockLaws.{zeros_replaced}
-use Rattle.derived_keys.proofs.padded.Goals as goal
+use Rattle.derived_keys.proofs.purpose.padded.Goals as goal
 
 pub returns : goal.returns
 returns c =
