@@ -1,9 +1,10 @@
 -- Results of tests and of calls, read as numbers and answers.
 -- Assumes nothing.
-use Rattle.std.proofs.Common.{arith, ◌≡◌, refl, sym, ap, ◌∙◌, ℕ, Bool, true, false, cond, List, []}
+use Rattle.std.proofs.Common.{arith, ◌≡◌, refl, sym, ap, ◌∙◌, ℕ, Bool, true, false, cond, List, [], ◌++◌}
 use Rattle.std.specs.Prelude.{Result, Ok, Err}
 use Rattle.protocol.specs.Answer as rules
 use Rattle.protocol.specs.Answer.{Test, first_of, judge, when_done, answer_number, is_refused}
+use Rattle.protocol.proofs.FirstOf.{first_stays, first-goes-on}
 use Rattle.protocol.proofs.Judging.{NoneApplies, positive, refuses, passes}
 use Rattle.answer.specs.declared.refusal.Refusal.{Refusal}
 use Rattle.answer.specs.declared.refusal.Refusal.TheVariants.{NotEncrypting, TooShort, TooLong, NotTransform, BadFlags, OtherSession, Constrained}
@@ -58,3 +59,40 @@ module _ {T : Type 0} (ts : List Test) (p : positive ts ≡ true) where
 
   pub refuses_with : (r : Result T Refusal) (why : Refusal) (a : rules.Answer) → number_in r ≡ first_of ts → r ≡ Err why → judge ts a ≡ rules.refused (number_of why)
   refuses_with r why a e o = refuses ts a (number_of why) (sym (ap number_in o) ∙ e) (refusal_number why)
+
+-- one test
+module _ (b : Bool) (why : Refusal) (r : Result (Unit {0}) Refusal) (says : r ≡ cond b (Err why) (Ok (tt {0}))) where
+  pub applies : (w : Refusal) → r ≡ Err w → (b ≡ true) × (w ≡ why)
+  applies w o = go b (sym says ∙ o)
+    where
+      go : (t : Bool) → cond t (Err why) (Ok (tt {0})) ≡ Err w → (t ≡ true) × (w ≡ why)
+      go true e = (refl, cc)
+      go false e = absurd (let z : ◌≡◌ {A = ℕ} 0 1 = cc in omega arith)
+
+  pub applies-not : (x : Unit {0}) → r ≡ Ok x → b ≡ false
+  applies-not x o = go b (sym says ∙ o)
+    where
+      go : (t : Bool) → cond t (Err why) (Ok (tt {0})) ≡ Ok x → t ≡ false
+      go true e = absurd (let z : ◌≡◌ {A = ℕ} 0 1 = cc in omega arith)
+      go false e = refl
+
+-- lists of tests, one after the other
+module _ {T : Type 0} (ts us : List Test) (r : Result T Refusal) (says : number_in r ≡ first_of ts) where
+  pub stays : (why : Refusal) → r ≡ Err why → number_of why ≡ first_of (ts ++ us)
+  stays why o = first_stays ts us (number_of why) (sym (ap number_in o) ∙ says) (refusal_number why)
+
+  pub goes_on : (x : T) → positive ts ≡ true → r ≡ Ok x → first_of (ts ++ us) ≡ first_of us
+  goes_on x p o = first-goes-on ts us (passed ts p r x says o)
+
+-- what a result says as a number
+module _ {T : Type 0} (r : Result T Refusal) (n : ℕ) (says : number_in r ≡ n) where
+  pub err_says : (why : Refusal) → r ≡ Err why → number_of why ≡ n
+  err_says why o = sym (ap number_in o) ∙ says
+
+  pub ok_says : (x : T) → r ≡ Ok x → 0 ≡ n
+  ok_says x o = sym (ap number_in o) ∙ says
+
+-- and what one test does
+pub test_says : (b : Bool) (why : Refusal) (r : Result (Unit {0}) Refusal) → r ≡ cond b (Err why) (Ok (tt {0})) → number_in r ≡ cond b (number_of why) 0
+test_says true why r e = ap number_in e
+test_says false why r e = ap number_in e

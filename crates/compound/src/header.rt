@@ -4,7 +4,7 @@ ghost use Rattle.protocol.specs.InnerHeader.{is_inner_header, is_related, next_c
 ghost use Rattle.compound.specs.Reading.{envelope_of};
 
 use crate::Envelope;
-use little_endian::{u16_at, u32_at, u64_at};
+use little_endian::number_at;
 use protocol_id::begins;
 
 // The header at a place of a message, which is wholly inside.
@@ -25,27 +25,27 @@ impl InnerHeader<'_> {
     pub fn is_related(self) -> bool
         ensures { result ≡ is_related self.entry.message.now self.entry.at }
     {
-        u32_at(self.message, self.at + 16) / 4 % 2 == 1
+        number_at::<4>(self.message, self.at + 16) / 4 % 2 == 1
     }
 
     pub fn next_command(self) -> usize
         ensures { result ≡ next_command self.entry.message.now self.entry.at }
     {
-        u32_at(self.message, self.at + 20) as usize
+        number_at::<4>(self.message, self.at + 20) as usize
     }
 
     fn session_id(self) -> u64
         ensures { result ≡ inner_session_id self.entry.message.now self.entry.at }
     {
-        u64_at(self.message, self.at + 40)
+        number_at::<8>(self.message, self.at + 40)
     }
 
     // A break notice (RULES 9.9): Command, MessageId and SessionId as MS-SMB2 2.2.23 has them.
     fn is_break_notice(self) -> bool
         ensures { result ≡ is_break_notice self.entry.message.now self.entry.at }
     {
-        let command = u16_at(self.message, self.at + 12);
-        let message_id = u64_at(self.message, self.at + 24);
+        let command = number_at::<2>(self.message, self.at + 12);
+        let message_id = number_at::<8>(self.message, self.at + 24);
         (command == 0x0012) & (message_id == 0xFFFFFFFFFFFFFFFF) & (self.session_id() == 0)
     }
 

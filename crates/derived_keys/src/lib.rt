@@ -10,7 +10,7 @@ ghost use Rattle.dialects.specs.Reading.{wide_in};
 ghost use Rattle.derived_keys.specs.Reading.{stored};
 ghost use Rattle.derived_keys.specs.Purposes.{keys_by};
 
-use blocks::block_at;
+use blocks::zero_padded;
 use connection::{KeySize, SMB_311};
 use purpose::{Purposes, of_300, of_311};
 
@@ -27,7 +27,7 @@ pub struct Keys {
 fn keys_for(size: KeySize, material: &[u8], purposes: Purposes) -> Keys
     ensures { result ≡ stored (keys_by (wide_in size) material.now purposes.entry) }
 {
-    let session_key = block_at(material, 0);
+    let session_key = zero_padded(material);
     let signing = purposes.signing.key(session_key);
     let application = purposes.application.key(session_key);
     let client_to_server = purposes.client_to_server.cipher_key(size, material);

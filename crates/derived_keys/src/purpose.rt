@@ -7,7 +7,7 @@ ghost use Rattle.protocol.specs.Suite.{kdf};
 ghost use Rattle.dialects.specs.Reading.{wide_in};
 ghost use Rattle.derived_keys.specs.Purposes.{IsFor311, IsFor300};
 
-use blocks::block_at;
+use blocks::zero_padded;
 use connection::KeySize;
 use kdf::{derive_16, derive_32};
 
@@ -15,15 +15,6 @@ use kdf::{derive_16, derive_32};
 pub struct Purpose<'a> {
     pub label: &'a [u8],
     pub context: &'a [u8],
-}
-
-// Zeros behind a key of 16 bytes.
-fn padded(key: [u8; 16]) -> [u8; 32]
-    ensures { result ≡ zero_padded 32 key }
-{
-    let mut r = [0u8; 32];
-    runs::copy(&mut r, 0, &key);
-    r
 }
 
 impl Purpose<'_> {
@@ -39,7 +30,7 @@ impl Purpose<'_> {
         ensures { result ≡ zero_padded 32 (kdf (cipher_key_bytes (wide_in size)) (cipher_material (wide_in size) material.now) self.entry.label.now self.entry.context.now) }
     {
         match size {
-            KeySize::Bits128 => padded(self.key(block_at(material, 0))),
+            KeySize::Bits128 => zero_padded(&self.key(zero_padded(material))),
             KeySize::Bits256 => derive_32(material, self.label, self.context),
         }
     }

@@ -40,6 +40,12 @@ impl KeySize {
         }
     }
 
+    pub fn is_wide(self) -> bool
+        ensures { result ≡ wide_in self }
+    {
+        self == KeySize::Bits256
+    }
+
     // Numbers 35 and 40.
     pub fn key_bytes(self) -> usize
         ensures { result ≡ cipher_key_bytes (wide_in self) }
@@ -61,15 +67,7 @@ impl KeySize {
     }
 }
 
-// Whether a key has 256 bits, as a flag.
-impl From<KeySize> for bool {
-    ghost from_gives = { λ size wide. wide ≡ wide_in size };
-
-    fn from(size: KeySize) -> bool {
-        size == KeySize::Bits256
-    }
-}
-
+// By the flag of a record.
 impl From<bool> for KeySize {
     ghost from_gives = { λ wide size. wide_in size ≡ wide };
 

@@ -13,7 +13,7 @@ use connection::KeySize;
 pub fn material_tests(dialect: u16, cipher: u16, material: &[u8]) -> Result<(), Refusal>
     ensures { number_in result ≡ first_of (material_tests dialect cipher material.now) }
 {
-    let wide = bool::from(KeySize::of(dialect, cipher));
+    let wide = KeySize::of(dialect, cipher).is_wide();
     let long = wide & (connection::longest_material() < material.len());
     refuse(!connection::known_dialect(dialect), Refusal::UnknownDialect)?;
     refuse((material.len() == 0) | long, Refusal::BadKeyMaterial)

@@ -5,7 +5,9 @@ ghost use Rattle.std.specs.Prelude.{◌≡◌};
 ghost use Rattle.protocol.specs.TransformHeader.{nonce_of, authenticated};
 ghost use Rattle.transform_header.specs.Reading.{ReadFrom};
 
-use little_endian::{u16_at, u32_at, u64_at};
+use arrays::bytes_at;
+use little_endian::{number_at, to_bytes};
+use runs::copy;
 
 #[derive(Clone, Copy)]
 pub struct TransformHeader {
@@ -28,13 +30,13 @@ pub fn read_header(m: &[u8]) -> Option<TransformHeader>
     }
     Some(TransformHeader {
         begins: protocol_id::begins(m, 0, 0xFD),
-        signature: arrays::bytes_16(m, 4),
-        nonce: arrays::bytes_16(m, 20),
-        nonce_end: u32_at(m, 32),
-        authenticated: arrays::bytes_32(m, 20),
-        size: u32_at(m, 36),
-        flags: u16_at(m, 42),
-        session_id: u64_at(m, 44),
+        signature: bytes_at(m, 4),
+        nonce: bytes_at(m, 20),
+        nonce_end: number_at::<4>(m, 32) as u32,
+        authenticated: bytes_at(m, 20),
+        size: number_at::<4>(m, 36) as u32,
+        flags: number_at::<2>(m, 42) as u16,
+        session_id: number_at::<8>(m, 44),
     })
 }
 
@@ -43,7 +45,7 @@ pub fn nonce(counter: u64) -> [u8; 16]
     ensures { result ≡ nonce_of counter }
 {
     let mut r = [0u8; 16];
-    runs::copy(&mut r, 0, &little_endian::u64_bytes(counter));
+    copy(&mut r, 0, &to_bytes::<8>(counter));
     r
 }
 
@@ -52,9 +54,9 @@ pub fn authenticated_bytes(counter: u64, size: u32, id: u64) -> [u8; 32]
     ensures { result ≡ authenticated counter size id }
 {
     let mut r = [0u8; 32];
-    runs::copy(&mut r, 0, &little_endian::u64_bytes(counter));
-    runs::copy(&mut r, 16, &little_endian::u32_bytes(size));
+    copy(&mut r, 0, &to_bytes::<8>(counter));
+    copy(&mut r, 16, &to_bytes::<4>(u64::from(size)));
     r[22] = 1;
-    runs::copy(&mut r, 24, &little_endian::u64_bytes(id));
+    copy(&mut r, 24, &to_bytes::<8>(id));
     r
 }

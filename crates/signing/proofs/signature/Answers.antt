@@ -32,7 +32,7 @@ returns c =
     let m = c.args.m.now in
     let E = block_cipher c.expand_key-keys.result in
     let same_key : c.expand_key-keys.result ≡ expanded_key key =
-    c.expand_key-keys.ensures ∙ ap expanded_key (c.bytes_16.ensures ∙ take_all 16 key (le_of_eq c.requires.0)) in
+    c.expand_key-keys.ensures ∙ ap expanded_key (c.bytes_at.ensures ∙ take_all 16 key (le_of_eq c.requires.0)) in
     let begun = new_holds _ c.new.ensures E in
     ends_with _ c.finish.ensures (takes_in _ _ c.update-2.ensures (takes_in _ _ c.update.ensures begun))
     ∙ ap (rfc4493.cmac E)

@@ -2,7 +2,7 @@
 -- Assumes nothing.
 use mathlib.Core.Path.{refl}
 use Rattle.octets.specs.Blocks.{zero_padded}
-use Rattle.session_record.proofs.vacant.Goals as goal
+use Rattle.session_record.proofs.Session.vacant.Goals as goal
 
 pub returns : goal.returns
 unfolding zero_padded

@@ -4,14 +4,14 @@ use native.Mathlib.Omega.{arith}
 use borrow.Author.Tests.{le-leb, lt-leb}
 use Rattle.protocol.specs.Connection.{last_counter}
 use Rattle.session_record.specs.Reading.{stepped}
-use Rattle.session_record.proofs.step_record.Goals as goal
+use Rattle.session_record.proofs.Session.stepped.Goals as goal
 
-pub returns-then-by-last_counter : goal.returns-then-by-last_counter
+pub returns-then-last_counter-self : goal.returns-then-last_counter-self
 unfolding stepped
-returns-then-by-last_counter c =
+returns-then-last_counter-self c =
     let a = c.args in
     let last = c.last_counter.ensures in
-    let past : last_counter < a.s.counter + a.by = omega (arith, c.if-by-last_counter.true) in
+    let past : last_counter < a.self.counter + a.by = omega (arith, c.if-last_counter-self.true) in
     simp (lt-leb _ _ past)
 
 pub returns : goal.returns
@@ -19,5 +19,5 @@ unfolding stepped
 returns c =
     let a = c.args in
     let last = c.last_counter.ensures in
-    let within : a.s.counter + a.by ≤ last_counter = omega arith in
+    let within : a.self.counter + a.by ≤ last_counter = omega arith in
     simp (le-leb _ _ within)
