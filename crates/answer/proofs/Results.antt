@@ -2,6 +2,7 @@
 -- Assumes nothing.
 use Rattle.std.proofs.Common.{arith, ◌≡◌, refl, sym, ap, ◌∙◌, ℕ, Bool, true, false, cond, List, [], ◌++◌}
 use Rattle.std.specs.Prelude.{Result, Ok, Err}
+use Rattle.std.specs.Result.{is_err}
 use Rattle.protocol.specs.Answer as rules
 use Rattle.protocol.specs.Answer.{Test, first_of, judge, when_done, answer_number, is_refused}
 use Rattle.protocol.proofs.FirstOf.{first_stays, first-goes-on}
@@ -47,6 +48,10 @@ refusal_number BadLength e = omega arith
 pub numbered : (r : Result ℕ Refusal) → number_in r ≡ answer_number (answer_of r)
 numbered (Ok n) = refl
 numbered (Err why) = refl
+
+pub refused-is : (r : Result ℕ Refusal) → is_refused (answer_of r) ≡ is_err r
+refused-is (Ok n) = refl
+refused-is (Err why) = refl
 
 pub fold-numbered : (r : Result Bool Refusal) → number_in r ≡ answer_number (fold_answer_of r)
 fold-numbered (Ok b) = refl
