@@ -4,8 +4,7 @@ use mathlib.Core.Path.{◌≡◌, refl, sym, ap, ◌∙◌}
 use mathlib.Core.Bool.{Bool, true, false, cond, not}
 use mathlib.Core.List.{List, [], ◌∷◌, ◌++◌}
 use mathlib.Core.Option.{Option, none, some, get_or}
-use Rattle.std.specs.Prelude as std
-use Rattle.std.specs.Prelude.{Some, None, Result, Ok, Err}
+use Rattle.std.specs.Prelude.{Result, Ok, Err}
 use Rattle.std.proofs.lemmas.Result.{IfOk-at_ok}
 use Prim.Native.Nat.{ℕ, ◌-◌}
 use native.Mathlib.Omega.{arith}
@@ -30,13 +29,13 @@ use Rattle.protocol.proofs.AnswerLaws.{when_done_lem, when_refused, when_part, a
 use Rattle.protocol.proofs.CallLaws.{makes_when, makes_refused}
 use Rattle.protocol.proofs.First.{First, first-passed}
 use Rattle.protocol.proofs.FirstOf.{first-of_both}
-use Rattle.protocol.proofs.Judging.{line, judge-passed, judge-append}
+use Rattle.protocol.proofs.Judging.{judge-passed, judge-append}
 use Rattle.protocol.proofs.SuiteLaws.{suite_sound}
 use Rattle.answer.specs.declared.refusal.Refusal.{Refusal}
 use Rattle.answer.specs.Reading.{number_of, number_in}
 use Rattle.answer.proofs.Results.{passed, refuses_with, stays, goes_on}
 use Rattle.transform_header.specs.declared.TransformHeader as code
-use Rattle.transform_header.specs.Reading.{header_from, ReadFrom}
+use Rattle.transform_header.specs.Reading.{header_from}
 use Rattle.transform.specs.Steps.{opening_lines, Opens, Deciphered, size_then_walk, deciphered, OpensBody, OpensMessage}
 use Rattle.transform.proofs.Inner.{lent, back, when_inner}
 
@@ -156,43 +155,23 @@ module _ (c : Connection) (key : Bytes) (id : ℕ) (m : Bytes) where
   abbrev other_lines : List Test
   other_lines = other_session (eqb (session_id_of m) id) ∷ []
 
-  abbrev late_lines : List Test
-  late_lines = header_tests c (header_of m) ++ other_lines
+  abbrev front : List Test
+  front = message_tests c m ++ header_tests c (header_of m)
 
   module _ (rk : Result (Unit {0}) Refusal) (k : number_in rk ≡ first_of (key_tests c key)) where
     pub key_refuses : (why : Refusal) → rk ≡ Err why → number_of why ≡ first_of (opening_lines c key id m)
-    key_refuses why o = stays (key_tests c key) (message_tests c m ++ late_lines) rk k why o
+    key_refuses why o = stays (key_tests c key) (front ++ other_lines) rk k why o
 
-    module _ (xk : Unit {0}) (ok : rk ≡ Ok xk) (rm : Result (Unit {0}) Refusal) (s : number_in rm ≡ first_of (message_tests c m)) where
-      behind_key : first_of (opening_lines c key id m) ≡ first_of (message_tests c m ++ late_lines)
-      behind_key = goes_on (key_tests c key) (message_tests c m ++ late_lines) rk k xk refl ok
+    module _ (xk : Unit {0}) (ok : rk ≡ Ok xk) (rh : Result code.TransformHeader Refusal) (t : number_in rh ≡ first_of front) where
+      behind_key : first_of (opening_lines c key id m) ≡ first_of (front ++ other_lines)
+      behind_key = goes_on (key_tests c key) (front ++ other_lines) rk k xk refl ok
 
-      pub message_refuses : (why : Refusal) → rm ≡ Err why → number_of why ≡ first_of (opening_lines c key id m)
-      message_refuses why o = stays (message_tests c m) late_lines rm s why o ∙ sym behind_key
+      pub front_refuses : (why : Refusal) → rh ≡ Err why → number_of why ≡ first_of (opening_lines c key id m)
+      front_refuses why o = stays front other_lines rh t why o ∙ sym behind_key
 
-      module _ (xm : Unit {0}) (om : rm ≡ Ok xm) where
-        -- a message that passed the lines about its length has a header
-        pub has-header : (h : std.Option code.TransformHeader) → ReadFrom m h → h ≡ None → ⊥
-        has-header None f e =
-            let none = passed (message_tests c m) refl rm xm s om in
-            let long = leb-false (length m) 52 (line (message_tests c m) none 2) in
-            omega (arith, long, f)
-        has-header (Some x) f e = absurd (let z : ◌≡◌ {A = ℕ} 0 1 = cc in omega arith)
-
-        module _ (h : code.TransformHeader) (eh : header_from h ≡ header_of m) (rh : Result (Unit {0}) Refusal)
-            (t : number_in rh ≡ first_of (header_tests c (header_from h))) where
-          behind_message : first_of (opening_lines c key id m) ≡ first_of late_lines
-          behind_message = behind_key ∙ goes_on (message_tests c m) late_lines rm s xm refl om
-
-          t' : number_in rh ≡ first_of (header_tests c (header_of m))
-          t' = t ∙ ap (λ (x : TransformHeader). first_of (header_tests c x)) eh
-
-          pub header_refuses : (why : Refusal) → rh ≡ Err why → number_of why ≡ first_of (opening_lines c key id m)
-          header_refuses why o = stays (header_tests c (header_of m)) other_lines rh t' why o ∙ sym behind_message
-
-          pub all_say : (xh : Unit {0}) → rh ≡ Ok xh → (ro : Result (Unit {0}) Refusal)
-              → number_in ro ≡ cond (not (eqb h.session_id id)) 6 0 → number_in ro ≡ first_of (opening_lines c key id m)
-          all_say xh oh ro u =
-              u
-              ∙ ap (λ (x : TransformHeader). cond (not (eqb x.session_id id)) 6 0) eh
-              ∙ sym (behind_message ∙ goes_on (header_tests c (header_of m)) other_lines rh t' xh refl oh)
+      pub all_say : (h : code.TransformHeader) → rh ≡ Ok h → header_from h ≡ header_of m → (ro : Result (Unit {0}) Refusal)
+          → number_in ro ≡ cond (not (eqb h.session_id id)) 6 0 → number_in ro ≡ first_of (opening_lines c key id m)
+      all_say h oh eh ro u =
+          u
+          ∙ ap (λ (x : TransformHeader). cond (not (eqb x.session_id id)) 6 0) eh
+          ∙ sym (behind_key ∙ goes_on front other_lines rh t h refl oh)

@@ -23,10 +23,7 @@ fn open_tests(c: Connection, key: &[u8], id: u64, message: &[u8]) -> Result<Tran
     ensures { Opens (connection_of c) key.now id message.now result }
 {
     refusals::key_tests(c, key)?;
-    refusals::message_tests(c, message)?;
-    // never refused here: a message with no room for a header was refused by 2
-    let h = transform_header::read_header(message).ok_or(Refusal::TooShort)?;
-    refusals::header_tests(c, h)?;
+    let h = refusals::opening_tests(c, message)?;
     refuse(h.session_id != id, Refusal::OtherSession)?;
     Ok(h)
 }
