@@ -5,11 +5,11 @@
 mod lines;
 mod new;
 
-ghost use Rattle.std.specs.Prelude.{◌≡◌, true, false};
+ghost use Rattle.std.specs.Prelude.{◌≡◌, true, false, length};
 ghost use Rattle.protocol.specs.SessionTable.{sealing_key, opening_key};
 ghost use Rattle.dialects.specs.Reading.{wide_in};
 ghost use Rattle.connection.specs.Reading.{flag, role_in};
-ghost use Rattle.session_record.specs.Reading.{free, is_wanted, session_of, stepped};
+ghost use Rattle.session_record.specs.Reading.{free, is_wanted, key_bytes, session_of, stepped};
 ghost use Rattle.session_record.specs.Clauses.{named_id};
 ghost use Rattle.session_record.specs.Adds.{adding_for};
 
@@ -90,7 +90,8 @@ impl Session {
 
     // A client seals with the first cipher key, a server with the second.
     pub fn sealing_key(&self, role: Role) -> &[u8]
-        ensures { result.now ≡ sealing_key (role_in role) (session_of self.now).keys }
+        ensures key { result.now ≡ sealing_key (role_in role) (session_of self.now).keys }
+        ensures size { length result.now ≡ key_bytes self.now }
     {
         let bytes = self.key_size().key_bytes();
         match role {
@@ -101,7 +102,8 @@ impl Session {
 
     // And opens with the other.
     pub fn opening_key(&self, role: Role) -> &[u8]
-        ensures { result.now ≡ opening_key (role_in role) (session_of self.now).keys }
+        ensures key { result.now ≡ opening_key (role_in role) (session_of self.now).keys }
+        ensures size { length result.now ≡ key_bytes self.now }
     {
         self.sealing_key(role.other())
     }
