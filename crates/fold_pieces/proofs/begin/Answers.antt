@@ -15,4 +15,4 @@ pub returns : goal.returns
 returns c =
     let v = c.args.chain.now in
     let h = is_updated _ _ _ c.update.ensures ∙ ap (λ (s : Sha512). updated s v) (is_nothing _ c.new.ensures) in
-    begin_done v c.if-chain-ne64.false h c.step-2.ensures
+    begin_done v c.if-chain-ne64.false h c.ended-2.ensures c.step-2.ensures
