@@ -5,4 +5,4 @@ use Rattle.derived_keys.proofs.purpose.Purpose.cipher_key.Goals as goal
 pub returns-in-Bits256 : goal.returns-in-Bits256
 returns-in-Bits256 c =
     let a = c.args in
-    rw c.in-Bits256.is (wide_key a.material.now a.self.label.now a.self.context.now _ c.derive_32.ensures)
+    rw c.in-Bits256.is (wide_key a.material.now a.self.label.now a.self.context.now _ c.derive.ensures)

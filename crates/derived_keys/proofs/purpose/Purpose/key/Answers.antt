@@ -6,4 +6,4 @@ use Rattle.derived_keys.proofs.purpose.Purpose.key.Goals as goal
 pub returns : goal.returns
 returns c =
     let a = c.args in
-    c.derive_16.ensures ∙ sym (kdf_is 16 a.session_key a.self.label.now a.self.context.now)
+    c.derive.ensures ∙ sym (kdf_is 16 a.session_key a.self.label.now a.self.context.now)
