@@ -140,7 +140,7 @@ fn two_last_rounds<W: Algorithm<ROUNDS, BLOCK>, const ROUNDS: usize, const BLOCK
     round(half, W::round_constant(j + 1), w[j + 1])
 }
 
-// The last sixteen rounds, without a loop: every index is known once they are inlined.
+// The last sixteen rounds.
 pub fn last_rounds<W: Algorithm<ROUNDS, BLOCK>, const ROUNDS: usize, const BLOCK: usize>(
     s: Working<W>,
     w: &[W; ROUNDS],
@@ -148,13 +148,9 @@ pub fn last_rounds<W: Algorithm<ROUNDS, BLOCK>, const ROUNDS: usize, const BLOCK
     ensures { (x : sha2.Working) → of W.value s ≡ sha2.rounds W.family (map W.value w.now) W.family.further x
         → of W.value result ≡ sha2.rounds W.family (map W.value w.now) (16 + W.family.further) x }
 {
-    let j = ROUNDS - 16;
-    let v1 = two_last_rounds(s, w, j);
-    let v2 = two_last_rounds(v1, w, j + 2);
-    let v3 = two_last_rounds(v2, w, j + 4);
-    let v4 = two_last_rounds(v3, w, j + 6);
-    let v5 = two_last_rounds(v4, w, j + 8);
-    let v6 = two_last_rounds(v5, w, j + 10);
-    let v7 = two_last_rounds(v6, w, j + 12);
-    two_last_rounds(v7, w, j + 14)
+    let mut v = s;
+    for i in 0..8 {
+        v = two_last_rounds(v, w, ROUNDS - 16 + 2 * i);
+    }
+    v
 }
