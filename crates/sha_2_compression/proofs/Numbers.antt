@@ -26,8 +26,8 @@ module _ {X : Type 0} (value : X → ℕ) where
     scheduled w j v a b c d f k {y} h lw ey ek ev =
         let s : length (set w (j + 16) y) ≡ 16 + p.further = length-set w (j + 16) y ∙ lw in
         let word = ey
-            ∙ (λ i. schedule_word p (number_at w j a (omega arith) i) (number_at w (j + 1) b (omega arith) i)
-            (number_at w (j + 9) c (omega arith) i) (number_at w (j + 14) d (omega arith) i)) in
+        ∙ (λ i. schedule_word p (number_at w j a (omega arith) i) (number_at w (j + 1) b (omega arith) i)
+        (number_at w (j + 9) c (omega arith) i) (number_at w (j + 14) d (omega arith) i)) in
         let m = map-set value w (j + 16) y in
         rw m
         (goes_one p h (length-map w value ∙ lw) refl word

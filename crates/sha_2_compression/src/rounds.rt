@@ -140,7 +140,7 @@ fn two_last_rounds<W: Algorithm<ROUNDS, BLOCK>, const ROUNDS: usize, const BLOCK
     round(half, W::round_constant(j + 1), w[j + 1])
 }
 
-// The last sixteen rounds.
+// The last sixteen rounds, two a turn: one a turn takes 5 to 7 % more instructions for a whole hash.
 pub fn last_rounds<W: Algorithm<ROUNDS, BLOCK>, const ROUNDS: usize, const BLOCK: usize>(
     s: Working<W>,
     w: &[W; ROUNDS],
