@@ -14,7 +14,8 @@ use sha256::Sha256;
 fn key_block(key: &[u8]) -> [u8; 64]
     ensures { result ≡ spec.key_block sha256 key.now }
 {
-    if key.len() <= 64 {
+    let fits = key.len() <= 64;
+    if fits {
         return zero_padded(key);
     }
     zero_padded(&sha256::hash(key))

@@ -1,6 +1,6 @@
 -- The laws of the family, which speak of numbers, at lists of words of any type, each by its number.
 -- Assumes nothing.
-use Rattle.std.proofs.Common.{◌≡◌, ℕ, ◌+◌, ◌*◌, ◌^◌, ◌≤◌, ◌<◌, List, length, map, ◌∙◌, sym, lt_of_le_of_lt, mul-le-mul_right, arith}
+use Rattle.std.proofs.Common.{◌≡◌, ℕ, ◌+◌, ◌*◌, ◌^◌, ◌≤◌, ◌<◌, List, length, map, ◌∙◌, sym, refl, lt_of_le_of_lt, mul-le-mul_right, arith}
 use Rattle.std.proofs.Math.ListN.{get_or, set}
 use Rattle.std.proofs.lemmas.List.{get_or-map, map-set, length-map, length-set}
 use Rattle.sha_2.specs.Sha2.{Sha2, Working, round, schedule_word}
@@ -14,25 +14,24 @@ module _ {X : Type 0} (value : X → ℕ) where
 
   module _ (p : Sha2) where
     -- a round on the constant and the word at j
-    pub round_at : (k w : List X) (j : ℕ) (x y : X) (v : Working) {v' : Working} → j < length k → j < length w
-        → v' ≡ round p (value (get_or k j x)) (value (get_or w j y)) v → v' ≡ round p (get_or (map value k) j 0) (get_or (map value w) j 0) v
-    round_at k w j x y v hk hw e = e ∙ (λ i. round p (number_at k j x hk i) (number_at w j y hw i) v)
+    pub round_at : (w : List X) (j : ℕ) (k x : X) (v : Working) {v' : Working} → j < length w → value k ≡ get_or p.constants j 0
+        → v' ≡ round p (value k) (value (get_or w j x)) v → v' ≡ round p (get_or p.constants j 0) (get_or (map value w) j 0) v
+    round_at w j k x v h ek e = e ∙ (λ i. round p (ek i) (number_at w j x h i) v)
 
     -- round j, and the word of the schedule sixteen places on
-    pub scheduled : (k w : List X) (j : ℕ) (v : Working) (a b c d e f : X) {y : X} {v' : Working} → j < p.further → length k ≡ 16 + p.further
-        → length w ≡ 16 + p.further → map value k ≡ p.constants
+    pub scheduled : (w : List X) (j : ℕ) (v : Working) (a b c d f k : X) {y : X} {v' : Working} → j < p.further → length w ≡ 16 + p.further
         → value y ≡ schedule_word p (value (get_or w j a)) (value (get_or w (j + 1) b)) (value (get_or w (j + 9) c)) (value (get_or w (j + 14) d))
-        → v' ≡ round p (value (get_or k j e)) (value (get_or (set w (j + 16) y) j f)) v
+        → value k ≡ get_or p.constants j 0 → v' ≡ round p (value k) (value (get_or (set w (j + 16) y) j f)) v
         → Goes p 1 j (map value w) v (map value (set w (j + 16) y)) v'
-    scheduled k w j v a b c d e f {y} h lk lw ek ey ev =
+    scheduled w j v a b c d f k {y} h lw ey ek ev =
         let s : length (set w (j + 16) y) ≡ 16 + p.further = length-set w (j + 16) y ∙ lw in
         let word = ey
         ∙ (λ i. schedule_word p (number_at w j a (omega arith) i) (number_at w (j + 1) b (omega arith) i)
         (number_at w (j + 9) c (omega arith) i) (number_at w (j + 14) d (omega arith) i)) in
         let m = map-set value w (j + 16) y in
         rw m
-        (goes_one p h (length-map w value ∙ lw) ek word
-        (round_at k (set w (j + 16) y) j e f v (omega arith) (omega arith) ev ∙ (λ i. round p (get_or (map value k) j 0) (get_or (m i) j 0) v)))
+        (goes_one p h (length-map w value ∙ lw) refl word
+        (round_at (set w (j + 16) y) j k f v (omega arith) ek ev ∙ (λ i. round p (get_or p.constants j 0) (get_or (m i) j 0) v)))
 
 -- where an array of a word for each round has its place in memory, the hash value has
 pub eight_fit : (rounds further size : ℕ) → rounds ≡ 16 + further → rounds * size < 2 ^ 63 → 8 * size < 2 ^ 63

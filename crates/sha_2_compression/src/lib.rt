@@ -59,7 +59,6 @@ fn sums<W: Word>(hs: &[W; 8], v: Working<W>) -> [W; 8]
     ]
 }
 
-// The constants are bound here, where every index is known once the rounds are inlined: then they are operands, and no array is written.
 fn compress<W: Algorithm<ROUNDS, BLOCK>, const ROUNDS: usize, const BLOCK: usize>(
     hs: [W; 8],
     block: &[u8],
@@ -67,11 +66,10 @@ fn compress<W: Algorithm<ROUNDS, BLOCK>, const ROUNDS: usize, const BLOCK: usize
     requires { length block.now ≡ block_size W.family }
     ensures { map W.value result ≡ sha2.compress W.family (map W.value hs) block.now }
 {
-    let k = W::round_constants();
-    let mut w = [k[0]; ROUNDS];
+    let mut w = [W::default(); ROUNDS];
     parse(&mut w, block);
-    let v = first_rounds(working(&hs), &mut w, &k);
-    sums(&hs, last_rounds(v, &w, &k))
+    let v = first_rounds(working(&hs), &mut w);
+    sums(&hs, last_rounds(v, &w))
 }
 
 // The whole blocks of m.

@@ -63,71 +63,65 @@ fn round<W: Word>(v: Working<W>, k: W, w: W) -> Working<W>
 fn scheduled_round<W: Algorithm<ROUNDS, BLOCK>, const ROUNDS: usize, const BLOCK: usize>(
     v: Working<W>,
     w: &mut [W; ROUNDS],
-    k: &[W; ROUNDS],
     j: usize,
 ) -> Working<W>
-    requires { (j < W.family.further) × (map W.value k.now ≡ W.family.constants) }
+    requires { j < W.family.further }
     ensures { (length w.new ≡ ROUNDS) × Goes W.family 1 j (map W.value w.old) (of W.value v) (map W.value w.new) (of W.value result) }
 {
     w[j + 16] = schedule_word(w[j], w[j + 1], w[j + 9], w[j + 14]);
-    round(v, k[j], w[j])
+    round(v, W::round_constant(j), w[j])
 }
 
 // Rounds j and j + 1.
 fn two_rounds<W: Algorithm<ROUNDS, BLOCK>, const ROUNDS: usize, const BLOCK: usize>(
     v: Working<W>,
     w: &mut [W; ROUNDS],
-    k: &[W; ROUNDS],
     j: usize,
 ) -> Working<W>
-    requires { (j + 2 ≤ W.family.further) × (map W.value k.now ≡ W.family.constants) }
+    requires { j + 2 ≤ W.family.further }
     ensures { (length w.new ≡ ROUNDS) × Goes W.family 2 j (map W.value w.old) (of W.value v) (map W.value w.new) (of W.value result) }
 {
-    let half = scheduled_round(v, w, k, j);
-    scheduled_round(half, w, k, j + 1)
+    let half = scheduled_round(v, w, j);
+    scheduled_round(half, w, j + 1)
 }
 
 // Four rounds from round j on.
 fn four_rounds<W: Algorithm<ROUNDS, BLOCK>, const ROUNDS: usize, const BLOCK: usize>(
     v: Working<W>,
     w: &mut [W; ROUNDS],
-    k: &[W; ROUNDS],
     j: usize,
 ) -> Working<W>
-    requires { (j + 4 ≤ W.family.further) × (map W.value k.now ≡ W.family.constants) }
+    requires { j + 4 ≤ W.family.further }
     ensures { (length w.new ≡ ROUNDS) × Goes W.family 4 j (map W.value w.old) (of W.value v) (map W.value w.new) (of W.value result) }
 {
-    let half = two_rounds(v, w, k, j);
-    two_rounds(half, w, k, j + 2)
+    let half = two_rounds(v, w, j);
+    two_rounds(half, w, j + 2)
 }
 
 // Eight rounds, after which each variable has been in all places: inlined, none is moved.
 fn eight_rounds<W: Algorithm<ROUNDS, BLOCK>, const ROUNDS: usize, const BLOCK: usize>(
     v: Working<W>,
     w: &mut [W; ROUNDS],
-    k: &[W; ROUNDS],
     j: usize,
 ) -> Working<W>
-    requires { (j + 8 ≤ W.family.further) × (map W.value k.now ≡ W.family.constants) }
+    requires { j + 8 ≤ W.family.further }
     ensures { (length w.new ≡ ROUNDS) × Goes W.family 8 j (map W.value w.old) (of W.value v) (map W.value w.new) (of W.value result) }
 {
-    let half = four_rounds(v, w, k, j);
-    four_rounds(half, w, k, j + 4)
+    let half = four_rounds(v, w, j);
+    four_rounds(half, w, j + 4)
 }
 
 // The rounds that the schedule is still to be extended in.
 pub fn first_rounds<W: Algorithm<ROUNDS, BLOCK>, const ROUNDS: usize, const BLOCK: usize>(
     s: Working<W>,
     w: &mut [W; ROUNDS],
-    k: &[W; ROUNDS],
 ) -> Working<W>
-    requires { map W.value k.now ≡ W.family.constants }
     ensures { (map W.value w.new ≡ sha2.extended W.family W.family.further (take 16 (map W.value w.old)))
         × (of W.value result ≡ sha2.rounds W.family (map W.value w.new) W.family.further (of W.value s)) }
 {
     let mut v = s;
     for i in 0..(ROUNDS - 16) / 8 {
-        v = eight_rounds(v, w, k, 8 * i);
+        v = eight_rounds(v, w, 8 * i);
     }
     v
 }
@@ -136,34 +130,27 @@ pub fn first_rounds<W: Algorithm<ROUNDS, BLOCK>, const ROUNDS: usize, const BLOC
 fn two_last_rounds<W: Algorithm<ROUNDS, BLOCK>, const ROUNDS: usize, const BLOCK: usize>(
     v: Working<W>,
     w: &[W; ROUNDS],
-    k: &[W; ROUNDS],
     j: usize,
 ) -> Working<W>
-    requires { (j + 2 ≤ ROUNDS) × (map W.value k.now ≡ W.family.constants) }
+    requires { j + 2 ≤ ROUNDS }
     ensures { (x : sha2.Working) → of W.value v ≡ sha2.rounds W.family (map W.value w.now) j x
         → of W.value result ≡ sha2.rounds W.family (map W.value w.now) (j + 2) x }
 {
-    let half = round(v, k[j], w[j]);
-    round(half, k[j + 1], w[j + 1])
+    let half = round(v, W::round_constant(j), w[j]);
+    round(half, W::round_constant(j + 1), w[j + 1])
 }
 
-// The last sixteen rounds, without a loop: an index that varies would keep the constants in an array, written out for each block.
+// The last sixteen rounds, two a turn: one a turn takes 5 to 7 % more instructions for a whole hash.
 pub fn last_rounds<W: Algorithm<ROUNDS, BLOCK>, const ROUNDS: usize, const BLOCK: usize>(
     s: Working<W>,
     w: &[W; ROUNDS],
-    k: &[W; ROUNDS],
 ) -> Working<W>
-    requires { map W.value k.now ≡ W.family.constants }
     ensures { (x : sha2.Working) → of W.value s ≡ sha2.rounds W.family (map W.value w.now) W.family.further x
         → of W.value result ≡ sha2.rounds W.family (map W.value w.now) (16 + W.family.further) x }
 {
-    let j = ROUNDS - 16;
-    let v1 = two_last_rounds(s, w, k, j);
-    let v2 = two_last_rounds(v1, w, k, j + 2);
-    let v3 = two_last_rounds(v2, w, k, j + 4);
-    let v4 = two_last_rounds(v3, w, k, j + 6);
-    let v5 = two_last_rounds(v4, w, k, j + 8);
-    let v6 = two_last_rounds(v5, w, k, j + 10);
-    let v7 = two_last_rounds(v6, w, k, j + 12);
-    two_last_rounds(v7, w, k, j + 14)
+    let mut v = s;
+    for i in 0..8 {
+        v = two_last_rounds(v, w, ROUNDS - 16 + 2 * i);
+    }
+    v
 }

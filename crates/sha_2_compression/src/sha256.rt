@@ -61,8 +61,8 @@ impl Word for u32 {
 }
 
 impl Algorithm<64, 64> for u32 {
-    fn round_constants() -> [u32; 64] {
-        K
+    fn round_constant(j: usize) -> u32 {
+        K[j]
     }
 
     fn initial_hash_value() -> [u32; 8] {

@@ -133,8 +133,8 @@ impl Word for u64 {
 }
 
 impl Algorithm<80, 128> for u64 {
-    fn round_constants() -> [u64; 80] {
-        K
+    fn round_constant(j: usize) -> u64 {
+        K[j]
     }
 
     fn initial_hash_value() -> [u64; 8] {

@@ -1,5 +1,5 @@
 // The words that an algorithm of the family computes on, and what tells it from the others (FIPS 180-4 §3.2, §4, §5).
-ghost use Rattle.std.specs.Prelude.{◌≡◌, List, ℕ, ◌+◌, ◌*◌, ◌^◌, ◌<◌, ◌≤◌, length, map};
+ghost use Rattle.std.specs.Prelude.{◌≡◌, List, ℕ, ◌+◌, ◌*◌, ◌^◌, ◌<◌, ◌≤◌, length, map, get_or};
 ghost use Rattle.std.specs.Mem.{type_size};
 ghost use Rattle.std.proofs.Math.Seq.{paste};
 ghost use Rattle.octets.specs.Numbers.{big_endian, to_big_endian, bytes_at};
@@ -9,7 +9,7 @@ ghost use Rattle.sha_2_compression.specs.Sizes.{SizesOf};
 
 // A word, with the functions of the algorithm that computes on it. They are of the word, and not written once over its operations: no clause
 // of a trait says of a word that it fits, and the short form of Ch rests on that.
-pub trait Word: Copy {
+pub trait Word: Copy + Default {
     // The number of a word.
     ghost value: { Self → ℕ };
 
@@ -56,8 +56,9 @@ pub trait Word: Copy {
 // schedule has; BLOCK is how many bytes a block has. They are parameters, since an array has as many elements as a parameter says.
 pub trait Algorithm<const ROUNDS: usize, const BLOCK: usize>: Word {
     // §4.2.2, §4.2.3
-    fn round_constants() -> [Self; ROUNDS]
-        ensures { map Self.value result ≡ Self.family.constants };
+    fn round_constant(j: usize) -> Self
+        requires { j < ROUNDS }
+        ensures { Self.value result ≡ get_or Self.family.constants j 0 };
 
     // §5.3.3, §5.3.5
     fn initial_hash_value() -> [Self; 8]

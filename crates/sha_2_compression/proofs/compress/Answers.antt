@@ -3,17 +3,14 @@ use Rattle.std.proofs.Common.{map}
 use Rattle.sha_2.proofs.Rounds.{compressed}
 use Rattle.sha_2_compression.proofs.compress.Goals as goal
 
-pub round_constants-k-requires : goal.round_constants-k-requires
-round_constants-k-requires g c = g.met.W.Algorithm.small
-
 pub parse-requires : goal.parse-requires
 parse-requires g c = (g.met.W.Algorithm.small, c.requires)
 
 pub first_rounds-v-requires : goal.first_rounds-v-requires
-first_rounds-v-requires g c = (g.met.W.Algorithm.small, c.round_constants-k.ensures)
+first_rounds-v-requires g c = g.met.W.Algorithm.small
 
 pub last_rounds-requires : goal.last_rounds-requires
-last_rounds-requires g c = (g.met.W.Algorithm.small, c.round_constants-k.ensures)
+last_rounds-requires g c = g.met.W.Algorithm.small
 
 pub returns : goal.returns
 returns g c =

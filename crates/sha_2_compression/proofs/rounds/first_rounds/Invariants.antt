@@ -7,4 +7,4 @@ use Rattle.sha_2_compression.proofs.rounds.first_rounds.Given as goal
 abbrev pub invariant-loop-i : goal.invariant-loop-i
 invariant-loop-i g l =
     let value = g.W.Word.value in
-    First g.W.Word.family (map value l.initial.w) (map value l.k) (of value l.initial.v) (map value l.w) (of value l.v) (8 * l.i)
+    First g.W.Word.family (map value l.initial.w) g.W.Word.family.constants (of value l.initial.v) (map value l.w) (of value l.v) (8 * l.i)

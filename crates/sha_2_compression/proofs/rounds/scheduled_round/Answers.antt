@@ -6,9 +6,8 @@ use Rattle.sha_2_compression.proofs.rounds.scheduled_round.Goals as goal
 
 pub returns : goal.returns
 returns g c =
-    let n = g.met.W.Algorithm.sizes.schedule in
     let a = c.args in (
       length-set a.w.now _ c.schedule_word.result ∙ c.told-w,
-      scheduled g.W.Word.value g.W.Word.family a.k.now a.w.now a.j (of g.W.Word.value a.v) _ _ _ _ _ _ c.requires.0 (c.told-k ∙ n) (c.told-w ∙ n) c.requires.1
-          c.schedule_word.ensures c.round.ensures,
+      scheduled g.W.Word.value g.W.Word.family a.w.now a.j (of g.W.Word.value a.v) _ _ _ _ _ _ c.requires (c.told-w ∙ g.met.W.Algorithm.sizes.schedule)
+          c.schedule_word.ensures c.round_constant.ensures c.round.ensures,
     )
