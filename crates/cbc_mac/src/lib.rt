@@ -21,13 +21,13 @@ pub fn chain(cipher: &Cipher, y: [u8; 16], s: &[u8]) -> [u8; 16]
     ensures { result ≡ cbc_mac (block_cipher cipher.now) y s.now (block_count (length s.now)) }
 {
     let mut z = y;
-    let whole = s.len() / 16;
-    for j in 0..whole {
-        let after = next(cipher, z, arrays::bytes_at(s, 16 * j));
+    let (whole, rest) = s.as_chunks::<16>();
+    for x in whole {
+        let after = next(cipher, z, *x);
         z = after;
     }
-    if 16 * whole < s.len() {
-        return next(cipher, z, blocks::zero_padded(&s[16 * whole..]));
+    if 0 < rest.len() {
+        return next(cipher, z, blocks::zero_padded(rest));
     }
     z
 }

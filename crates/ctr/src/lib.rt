@@ -24,7 +24,7 @@ pub fn apply(cipher: &Cipher, prefix: [u8; 12], first: u32, text: &mut [u8])
     ensures { text.new ≡ ctr (block_cipher cipher.now) (counter_blocks prefix first) text.old }
 {
     let whole = text.len() / 16;
-    // Whole blocks: the length of 16 is fixed, so that a block is xored at once.
+    // Whole blocks first, since a fixed length of 16 is xored at once; by number, since after `as_chunks_mut` a proof knows the length alone.
     for j in 0..whole {
         let stream = cipher.encrypt_counter(prefix, first + j as u32);
         runs::xor_into(&mut text[16 * j..16 * j + 16], stream);

@@ -46,8 +46,8 @@ fn element_block(e: Element) -> [u8; 16]
     r
 }
 
-// All blocks of s, of which the last is filled with zeros (6.4, step 3). The call of `times` is the one of the code, so that the compiler takes
-// it in.
+// All blocks of s, of which the last is filled with zeros (6.4, step 3). By number, and not whole blocks first as in `cbc_mac`: with one call of
+// `times` the compiler takes it into the loop.
 pub fn update(k: &HashKey, y: Running, s: &[u8]) -> Running
     ensures { element_of result.y ≡ ghash_from k.now (element_of y.y) s.now }
 {

@@ -4,5 +4,5 @@ use Rattle.aes.specs.BlockCipher.{block_cipher}
 use Rattle.cbc_mac.specs.CbcMac.{cbc_mac}
 use Rattle.cbc_mac.proofs.chain.Given as goal
 
-abbrev pub invariant-loop-j : goal.invariant-loop-j
-invariant-loop-j l = l.z ≡ cbc_mac (block_cipher l.cipher) l.initial.z l.s l.j
+abbrev pub invariant-loop-x : goal.invariant-loop-x
+invariant-loop-x l = l.z ≡ cbc_mac (block_cipher l.cipher) l.initial.z l.s l.x-index
