@@ -75,8 +75,8 @@ xored_last s l = subst (λ (s : List ℕ). set s 15 (bit_xor (get_or s 15 0) 0x8
 xored_none : (s : List ℕ) → length s ≡ 16 → set s 15 (bit_xor (get_or s 15 0) 0) ≡ s
 xored_none s l = subst (λ (s : List ℕ). set s 15 (bit_xor (get_or s 15 0) 0) ≡ s) (whole 16 s l) (simp xor_zero_r)
 
-pub doubled_is : (x s r : List ℕ) → s ≡ to_big_endian 16 (2 * big_endian x) → get_or x 0 0 < 256 → r ≡ set s 15 (bit_xor (get_or s 15 0) (get_or x 0 0 / 128 * 0x87))
-    → r ≡ doubled x
+pub doubled_is : (x s r : List ℕ) → s ≡ to_big_endian 16 (2 * big_endian x) → get_or x 0 0 < 256
+    → r ≡ set s 15 (bit_xor (get_or s 15 0) (get_or x 0 0 / 128 * 0x87)) → r ≡ doubled x
 unfolding doubled
 doubled_is x s r es h er = go (ltb (get_or x 0 0) 128) refl
   where
