@@ -5,21 +5,12 @@ ghost use Rattle.aes.specs.BlockCipher.{block_cipher};
 ghost use Rattle.cmac.specs.Cmac.{doubled, last_block};
 
 use aes::Cipher;
-use big_endian::{number_at, to_bytes};
-use runs::copy;
 
 // X << 1.
 fn shifted(x: [u8; 16]) -> [u8; 16]
     ensures { result ≡ to_big_endian 16 (2 * big_endian x) }
 {
-    let hi = number_at::<8>(&x, 0);
-    let lo = number_at::<8>(&x, 8);
-    let a = to_bytes::<8>((hi << 1) + (lo >> 63));
-    let b = to_bytes::<8>(lo << 1);
-    let mut r = [0u8; 16];
-    copy(&mut r, 0, &a);
-    copy(&mut r, 8, &b);
-    r
+    (u128::from_be_bytes(x) << 1).to_be_bytes()
 }
 
 // R_128 goes on top as often as the first bit says, so that no branch depends on a key.

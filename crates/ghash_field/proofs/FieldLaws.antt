@@ -1,6 +1,6 @@
 -- The product of SP 800-38D, 6.3, is linear, can be cut at any bit, and its reduction can wait.
--- Assumes nothing.
-use Rattle.std.proofs.Common.{◌≡◌, ℕ, zero, suc, ◌+◌, ◌-◌, ◌*◌, ◌/◌, ◌%◌, ◌^◌, ◌<◌, ◌≤◌, sym, refl, ap, ◌∙◌, ap₂, le_refl, add-zero, mul_assoc, add_comm, suc-add, one-mul, pow-suc, zero-add, zero-mul, mul-one, div-one, arith, pow_pos, shr-shr}
+use Rattle.std.proofs.Common.{◌≡◌, ℕ, zero, suc, ◌+◌, ◌-◌, ◌*◌, ◌/◌, ◌%◌, ◌^◌, ◌<◌, ◌≤◌, sym, refl, ap, ◌∙◌, ap₂, le_refl, add-zero, mul_assoc}
+use Rattle.std.proofs.Common.{add_comm, suc-add, one-mul, pow-suc, zero-add, zero-mul, mul-one, div-one, arith, pow_pos, shr-shr}
 use native.Mathlib.Nat.{zero-div}
 use lib.Bits.{bit_xor, differ, xor_zero_r, xor_self}
 use lib.Pow.{high, low, field, mod-mod-pow, split}

@@ -11,4 +11,5 @@ use Rattle.ghash.proofs.load.block.Goals as goal
 pub returns-then-s-at-lt16 : goal.returns-then-s-at-lt16
 returns-then-s-at-lt16 c =
     let l : length c.zero_padded.result ≡ 16 = search rules in
-    c.element.ensures ∙ ap big_endian (zero_padded_exact 16 c.zero_padded.result l ∙ c.zero_padded.ensures ∙ ap (zero_padded 16) (part_all c.args.s.now c.args.at))
+    let padded = c.zero_padded.ensures ∙ ap (zero_padded 16) (part_all c.args.s.now c.args.at) in
+    c.element.ensures ∙ ap big_endian (zero_padded_exact 16 c.zero_padded.result l ∙ padded)
