@@ -1,11 +1,12 @@
 -- What the code does to a state is `updated` and `finished`; and from a state that holds m they make one that holds the joined bytes, and the hash.
 -- Assumes nothing.
-use Rattle.std.proofs.Common.{◌≡◌, ℕ, ◌+◌, ◌-◌, ◌*◌, ◌/◌, ◌%◌, ◌^◌, ◌<◌, ◌≤◌, Bool, true, false, cond, ltb, List, [], ◌++◌, length, take, drop, sym, refl, ap, ◌∙◌, subst, ap₂, le_refl, mod-eq_of_lt, arith, length-append, length-drop, length-take-le, ltb-false, ltb-true, le-ltb, lt-ltb}
+use Rattle.std.proofs.Common.{◌≡◌, ℕ, ◌+◌, ◌-◌, ◌*◌, ◌/◌, ◌%◌, ◌^◌, ◌<◌, ◌≤◌, Bool, true, false, cond, ltb, List, [], ◌++◌, length, take, drop}
+use Rattle.std.proofs.Common.{sym, refl, ap, ◌∙◌, subst, ap₂, le_refl, mod-eq_of_lt, arith, length-drop, length-take-le, ltb-false, ltb-true, le-ltb, lt-ltb}
 use Rattle.std.proofs.Math.Nat.{mod-lt, mod-add-mod, add-mod_right, div-add-mod', div_self}
 use Rattle.std.proofs.lemmas.List.{length-replicate}
 use lib.Seq.{paste, take-length, length-paste}
 use Rattle.octets.proofs.Paste.{part_all}
-use Rattle.sha_2.specs.Sha2.{Sha2, block_size, hash_blocks, digest, zeros, padding, hash}
+use Rattle.sha_2.specs.Sha2.{Sha2, block_size, hash_blocks, padding, hash}
 use Rattle.sha_2.specs.Running.{State, Holds, nothing_taken, waiting, room, within, beyond, updated, ended, finished}
 use Rattle.sha_2.proofs.Padding.{last_whole}
 use Rattle.sha_2.proofs.Streaming.{length_part, holds_start, holds_within, holds_beyond, holds_end}

@@ -144,4 +144,3 @@ module _ (p : Sha2) where
         ∙ ap (λ (l : List ℕ). part ++ l)
         (sym (append_assoc (128 ∷ replicate r 0) (replicate (B - F) 0) field)
         ∙ ap₂ (λ (l f : List ℕ). (128 ∷ l) ++ f) (replicate-append-replicate r (B - F) 0 ∙ ap (λ (i : ℕ). replicate i 0) z) ef)
-

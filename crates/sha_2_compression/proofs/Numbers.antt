@@ -1,6 +1,6 @@
 -- The laws of the family, which speak of numbers, at lists of words of any type, each by its number.
 -- Assumes nothing.
-use Rattle.std.proofs.Common.{◌≡◌, ℕ, ◌+◌, ◌*◌, ◌^◌, ◌≤◌, ◌<◌, List, length, map, ◌∙◌, sym, refl, lt_of_le_of_lt, mul-le-mul_right, arith}
+use Rattle.std.proofs.Common.{◌≡◌, ℕ, ◌+◌, ◌*◌, ◌^◌, ◌<◌, List, length, map, ◌∙◌, sym, refl, lt_of_le_of_lt, mul-le-mul_right, arith}
 use Rattle.std.proofs.Math.ListN.{get_or, set}
 use Rattle.std.proofs.lemmas.List.{get_or-map, map-set, length-map, length-set}
 use Rattle.sha_2.specs.Sha2.{Sha2, Working, round, schedule_word}

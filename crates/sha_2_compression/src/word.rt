@@ -7,8 +7,8 @@ ghost use Rattle.sha_2.specs.Sha2 as sha2;
 ghost use Rattle.sha_2.specs.Sha2.{Sha2, bits, big_sigma, small_sigma};
 ghost use Rattle.sha_2_compression.specs.Sizes.{SizesOf};
 
-// A word, with the functions of the algorithm that computes on it. They are of the word, and not written once over its operations: no clause
-// of a trait says of a word that it fits, and the short form of Ch rests on that.
+// A word, with the functions of the algorithm that computes on it. Ch and Maj stand in each impl, a line each: a law over Self speaks of every
+// number, so that generic code does not know that a word fits its bits, which the short form of Ch rests on.
 pub trait Word: Copy + Default {
     // The number of a word.
     ghost value: { Self → ℕ };

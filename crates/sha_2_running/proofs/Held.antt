@@ -23,7 +23,8 @@ module _ (p : Sha2) {rounds block digest : ℕ} where
   pub begins : (s : Running ℕ rounds block digest) → state (λ (x : ℕ). x) s ≡ nothing_taken p → HeldBy s []
   begins s e = subst (λ (t : State). StateHolds p t []) (sym e ∙ state_is s) (nothing_holds p)
 
-  module _ (pos : 0 < block_size p) (wraps : (c : ℕ) → c % 2 ^ 64 % block_size p ≡ c % block_size p) (s : Running ℕ rounds block digest) (m : List ℕ) (h : HeldBy s m) where
+  module _ (pos : 0 < block_size p) (wraps : (c : ℕ) → c % 2 ^ 64 % block_size p ≡ c % block_size p)
+      (s : Running ℕ rounds block digest) (m : List ℕ) (h : HeldBy s m) where
     held : StateHolds p (state (λ (x : ℕ). x) s) m
     held = subst (λ (t : State). StateHolds p t m) (sym (state_is s)) h
 

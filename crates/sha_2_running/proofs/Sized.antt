@@ -1,6 +1,7 @@
 -- The laws of a hash under way, where the code's own number of bytes of a block stands for the algorithm's.
 -- Assumes nothing.
-use Rattle.std.proofs.Common.{◌≡◌, ℕ, ◌+◌, ◌-◌, ◌*◌, ◌/◌, ◌%◌, ◌^◌, ◌<◌, ◌≤◌, List, ◌++◌, length, take, drop, replicate, sym, refl, ap, ◌∙◌, subst, ap₂, le_refl, arith, lit≤, length-set}
+use Rattle.std.proofs.Common.{◌≡◌, ℕ, ◌+◌, ◌-◌, ◌*◌, ◌/◌, ◌%◌, ◌^◌, ◌<◌, ◌≤◌, List, length, take, drop, replicate}
+use Rattle.std.proofs.Common.{sym, refl, ap, ◌∙◌, subst, le_refl, arith, length-set}
 use Rattle.std.proofs.Math.ListN.{set}
 use Rattle.std.proofs.Math.Nat.{mod-lt}
 use lib.Seq.{paste, length-paste, drop_at}
@@ -8,7 +9,7 @@ use Rattle.std.proofs.lemmas.List.{length-replicate}
 use Rattle.octets.specs.Numbers.{to_big_endian}
 use Rattle.octets.proofs.NumberLaws.{length-to_big_endian, big_split}
 use Rattle.octets.proofs.Paste.{part_all}
-use Rattle.sha_2.specs.Sha2.{Sha2, block_size, hash_blocks, padding}
+use Rattle.sha_2.specs.Sha2.{Sha2, block_size, hash_blocks}
 use Rattle.sha_2.specs.Running.{State, updated, ended}
 use Rattle.sha_2.proofs.AnyState.{updated-within, updated-beyond}
 use Rattle.sha_2.proofs.Blocks.{one_and_one}
@@ -101,7 +102,8 @@ module _ (p : Sha2) (hs part : List ℕ) (n : ℕ) where
     unfolding ended
     one t₁ t₃ field hs' ek h e₁ ef e₃ eh =
         let f = field-is ef in
-        let at = e₃ ∙ ap (λ (i : ℕ). paste (set t₁ (length part) 128) (B - i) (take (16 - (16 - B / 8)) (drop (16 - B / 8) field)) (length (take (16 - (16 - B / 8)) (drop (16 - B / 8) field)))) eighth in
+        let bits : List ℕ = take (16 - (16 - B / 8)) (drop (16 - B / 8) field) in
+        let at = e₃ ∙ ap (λ (i : ℕ). paste (set t₁ (length part) 128) (B - i) bits (length bits)) eighth in
         let size = ap length at ∙ put (set t₁ (length part) 128) (laid (omega arith) e₁) f in
         eh ∙ ap (λ (t : List ℕ). hash_blocks p hs (length t / B) t) (one_block p n part pos ek (omega (arith, ek)) e₁ refl f at size)
 
@@ -110,7 +112,8 @@ module _ (p : Sha2) (hs part : List ℕ) (n : ℕ) where
     two t₁ t₃ field hs₁ hs₂ ek h e₁ ef eh₁ e₃ eh₂ =
         let f = field-is ef in
         let room = mod-lt n pos in
-        let at = e₃ ∙ ap (λ (i : ℕ). paste (replicate B 0) (B - i) (take (16 - (16 - B / 8)) (drop (16 - B / 8) field)) (length (take (16 - (16 - B / 8)) (drop (16 - B / 8) field)))) eighth in
+        let bits : List ℕ = take (16 - (16 - B / 8)) (drop (16 - B / 8) field) in
+        let at = e₃ ∙ ap (λ (i : ℕ). paste (replicate B 0) (B - i) bits (length bits)) eighth in
         let size₂ = laid (omega (arith, ek)) e₁ in
         let size₃ = ap length at ∙ put (replicate B 0) (length-replicate {A = ℕ} B 0) f in
         eh₂

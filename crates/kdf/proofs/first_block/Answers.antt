@@ -1,6 +1,5 @@
 -- Right because the pieces, joined, are the counter and the fixed input.
 -- Assumes nothing.
-use mathlib.Core.Path.{sym}
 use mathlib.Core.List.{[]}
 use Rattle.kdf.proofs.CounterModeLaws.{of-pieces}
 use Rattle.kdf.proofs.first_block.Goals as goal

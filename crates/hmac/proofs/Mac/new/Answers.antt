@@ -1,5 +1,5 @@
 -- Right because each hash has taken in its block of the key.
-use Rattle.std.proofs.Common.{ℕ, List, [], sym, ap, ◌∙◌, subst, append-nil, replicate}
+use Rattle.std.proofs.Common.{ℕ, List, sym, ap, ◌∙◌, subst, append-nil, replicate}
 use Rattle.octets.specs.Xor.{xor}
 use Rattle.sha256.specs.Code as code
 use Rattle.sha256.proofs.Pieces.{new_holds, takes_in}

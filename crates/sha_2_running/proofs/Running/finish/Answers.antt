@@ -1,5 +1,5 @@
 -- Right because the bytes that wait are the last ones of the message.
-use Rattle.std.proofs.Common.{ℕ, ◌%◌, ◌∙◌, List, ap, map, take}
+use Rattle.std.proofs.Common.{ℕ, ◌%◌, ◌∙◌, ap, map, take}
 use Rattle.sha_2.specs.Sha2.{digest}
 use Rattle.sha_2.specs.Running.{ended, finished}
 use Rattle.sha_2_running.proofs.Running.finish.Goals as goal

@@ -1,4 +1,4 @@
-use Rattle.std.proofs.Common.{◌≡◌, ℕ, ◌*◌, ◌/◌, ◌∙◌, List, length, map, replicate, ap, refl, arith, sym, mul-le-mul_right}
+use Rattle.std.proofs.Common.{◌≡◌, ℕ, ◌*◌, ◌/◌, ◌∙◌, length, map, replicate, ap, refl, arith, sym, mul-le-mul_right}
 use Rattle.std.proofs.Math.ListN.{get_or}
 use lib.Seq.{paste}
 use Rattle.std.proofs.lemmas.List.{get_or-map, length-replicate}

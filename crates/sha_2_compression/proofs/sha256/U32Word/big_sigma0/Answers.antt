@@ -1,5 +1,5 @@
 -- Right because 2 + 11 is 13, and 13 + 9 is 22.
-use Rattle.std.proofs.Common.{◌∙◌, refl}
+use Rattle.std.proofs.Common.{refl}
 use Rattle.sha_2.proofs.Rotations.{folded}
 use Rattle.sha_2_compression.proofs.sha256.U32Word.big_sigma0.Goals as goal
 

@@ -1,5 +1,5 @@
 -- Right because 6 + 5 is 11, and 11 + 14 is 25.
-use Rattle.std.proofs.Common.{◌∙◌, refl}
+use Rattle.std.proofs.Common.{refl}
 use Rattle.sha_2.proofs.Rotations.{folded}
 use Rattle.sha_2_compression.proofs.sha256.U32Word.big_sigma1.Goals as goal
 

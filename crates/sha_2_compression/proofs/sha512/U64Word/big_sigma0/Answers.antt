@@ -1,5 +1,5 @@
 -- Right because 28 + 6 is 34, and 34 + 5 is 39.
-use Rattle.std.proofs.Common.{◌∙◌, refl}
+use Rattle.std.proofs.Common.{refl}
 use Rattle.sha_2.proofs.Rotations.{folded}
 use Rattle.sha_2_compression.proofs.sha512.U64Word.big_sigma0.Goals as goal
 

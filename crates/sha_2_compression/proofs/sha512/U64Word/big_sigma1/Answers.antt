@@ -1,5 +1,5 @@
 -- Right because 14 + 4 is 18, and 18 + 23 is 41.
-use Rattle.std.proofs.Common.{◌∙◌, refl}
+use Rattle.std.proofs.Common.{refl}
 use Rattle.sha_2.proofs.Rotations.{folded}
 use Rattle.sha_2_compression.proofs.sha512.U64Word.big_sigma1.Goals as goal
 
