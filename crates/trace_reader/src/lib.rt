@@ -5,7 +5,7 @@ ghost use Rattle.std.specs.Prelude.{◌≡◌};
 ghost use Rattle.trace_format.specs.Format.{edition_of, read_file_head, read_head, read_at, read_in};
 ghost use Rattle.trace_reader.specs.Answers.{file_reading_of, head_reading_of, reading_of};
 
-use big_endian::u32_at;
+use big_endian::number_at;
 pub use trace_format::Unreadable;
 use trace_format::layout_of;
 
@@ -41,7 +41,7 @@ pub fn read_file_head(b: &[u8]) -> Result<FileHead, Unreadable>
     if b.len() < 4 {
         return Err(Unreadable);
     }
-    let h = u32_at(b, 0);
+    let h = number_at::<4>(b, 0);
     let edition = (h / 16777216) as u8;
     let unknown = layout_of(edition).is_none();
     if unknown {
@@ -63,7 +63,7 @@ pub fn read_head(edition: u8, b: &[u8]) -> Result<Head, Unreadable>
         return Err(Unreadable);
     }
     let unit = layout.unit;
-    let h = u32_at(b, 0) as usize;
+    let h = number_at::<4>(b, 0) as usize;
     let kind = h / 536870912;
     let len = h % 268435456 / unit;
     let spare = h % unit;

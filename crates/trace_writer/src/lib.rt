@@ -7,7 +7,7 @@ ghost use Rattle.trace_format.specs.Format.{edition_of, admitted};
 ghost use Rattle.trace_format.specs.Records.{bit, record_head, file_head_bytes, head_writable, record_bytes, writable, written_edition};
 ghost use Rattle.trace_writer.specs.Answers.{Writes, record_with};
 
-use big_endian::u32_bytes;
+use big_endian::to_bytes;
 use runs::copy;
 use trace_format::Layout;
 pub use trace_format::Unreadable;
@@ -28,7 +28,7 @@ fn head_bytes(kind: u32, from_server: bool, n: usize) -> [u8; 4]
     requires { admitted (edition_of written_edition) kind n ≡ true }
     ensures { result ≡ record_head (edition_of written_edition) kind from_server n }
 {
-    u32_bytes(head_number(kind, from_server, n * Layout::SECOND.unit))
+    to_bytes(u64::from(head_number(kind, from_server, n * Layout::SECOND.unit)))
 }
 
 // Puts head and payload in the place of the bytes from `at` on.
@@ -54,7 +54,7 @@ pub fn write_file_head(
         return Err(Unreadable);
     }
     let number = u32::from(edition) * 16777216 + u32::from(dialect) * 256 + u32::from(cipher);
-    let head = u32_bytes(number);
+    let head: [u8; 4] = to_bytes(u64::from(number));
     copy(room, 0, &head);
     Ok(4)
 }

@@ -8,7 +8,7 @@ pub returns-then-b-lt4 : goal.returns-then-b-lt4
 returns-then-b-lt4 c = file-short c.args.b.now c.if-b-lt4.true
 
 pub returns-then-unknown : goal.returns-then-unknown
-returns-then-unknown c = file_unknown c.args.b.now (omega arith) _ c.u32_at-h.ensures (sym c.layout_of.ensures.there ∙ c.if-unknown.ensures)
+returns-then-unknown c = file_unknown c.args.b.now (omega arith) _ c.number_at-h.ensures.value (sym c.layout_of.ensures.there ∙ c.if-unknown.ensures)
 
 pub returns : goal.returns
-returns c = file-good c.args.b.now (omega arith) _ c.u32_at-h.ensures (sym c.layout_of.ensures.there ∙ c.if-unknown.ensures)
+returns c = file-good c.args.b.now (omega arith) _ c.number_at-h.ensures.value (sym c.layout_of.ensures.there ∙ c.if-unknown.ensures)

@@ -17,15 +17,15 @@ returns-in_err-layout c =
 pub returns-then-spare-ne0 : goal.returns-then-spare-ne0
 returns-then-spare-ne0 c =
     let its = rw c.in_ok-layout.ensures.ok_part at c.layout_of.ensures.is in
-    head_spare (edition_of c.args.edition) c.args.b.now c.if-b-lt4.false _ c.u32_at-h.ensures _ its.unit c.if-spare-ne0.true
+    head_spare (edition_of c.args.edition) c.args.b.now c.if-b-lt4.false _ c.number_at-h.ensures.value _ its.unit c.if-spare-ne0.true
 
 pub returns-then-not-admits : goal.returns-then-not-admits
 returns-then-not-admits c =
     let its = rw c.in_ok-layout.ensures.ok_part at c.layout_of.ensures.is in
-    head_bad (edition_of c.args.edition) c.args.b.now c.if-b-lt4.false _ c.u32_at-h.ensures _ its.unit _ (c.admits.ensures _ its) c.if-not-admits.true
+    head_bad (edition_of c.args.edition) c.args.b.now c.if-b-lt4.false _ c.number_at-h.ensures.value _ its.unit _ (c.admits.ensures _ its) c.if-not-admits.true
 
 pub returns : goal.returns
 returns c =
     let its = rw c.in_ok-layout.ensures.ok_part at c.layout_of.ensures.is in
-    head-good (edition_of c.args.edition) c.args.b.now c.if-b-lt4.false _ c.u32_at-h.ensures _ its.unit _ (c.admits.ensures _ its) c.if-spare-ne0.false
+    head-good (edition_of c.args.edition) c.args.b.now c.if-b-lt4.false _ c.number_at-h.ensures.value _ its.unit _ (c.admits.ensures _ its) c.if-spare-ne0.false
     c.if-not-admits.false

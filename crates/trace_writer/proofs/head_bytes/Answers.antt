@@ -7,4 +7,4 @@ use Rattle.trace_writer.proofs.head_bytes.Goals as goal
 
 pub returns : goal.returns
 unfolding record_head
-returns c = c.u32_bytes.ensures ∙ ap (to_big_endian 4) c.head_number.ensures
+returns c = c.to_bytes.ensures ∙ ap (to_big_endian 4) (c.from.ensures ∙ c.head_number.ensures)

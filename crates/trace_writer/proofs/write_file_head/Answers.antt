@@ -16,6 +16,6 @@ pub returns : goal.returns
 unfolding file_head_bytes
 returns c =
     let a = c.args in
-    let head : c.u32_bytes-head.result ≡ file_head_bytes a.edition a.dialect a.cipher = cc in
+    let head : c.to_bytes-head.result ≡ file_head_bytes a.edition a.dialect a.cipher = cc in
     let four = length-file_head_bytes a.edition a.dialect a.cipher in
     written (head_held a.edition a.dialect a.cipher a.room.now true (grind (arith, nat_tests))) (omega arith) (rw head at c.copy.ensures)
