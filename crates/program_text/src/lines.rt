@@ -7,6 +7,7 @@ use crate::parts::front;
 use runs::copy;
 
 // The text's first `used` bytes. The programs have no heap: the room is fixed, and a line that might not fit is not put.
+#[derive(Drop)]
 pub struct Lines<const N: usize> {
     pub text: [u8; N],
     pub used: usize,
