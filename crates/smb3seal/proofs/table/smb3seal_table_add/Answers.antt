@@ -1,6 +1,6 @@
 -- Right because the place of the id and the first free place are those of the rules, and the record put there is the one that adding makes (TableCalls).
 -- Assumes nothing.
-use mathlib.Core.Path.{sym, ap, subst, ◌∙◌}
+use mathlib.Core.Path.{subst}
 use lib.Dec.{ltb}
 use lib.ListN.{length}
 use Rattle.connection.specs.Reading.{flag}
