@@ -56,12 +56,12 @@ module _ (m : Bytes) (e : Envelope) (r : Result InnerHeader Refusal) (f : First 
       let none : NoneApplies lines = passed lines refl r h f.number o in
       let long : 64 ≤ length m = ltb-false (length m) 64 none.0 in
       let w : Walking m e 0 1 =
-          record {
-            inside = omega arith;
-            counted = omega arith;
-            begun = omega arith;
-            so_far = judge-passed lines (walk_on (length m) m e 0 1) none ∙ ap (λ (j : ℕ). walk_on j m e 0 1) (fuel_start (length m));
-          } in
+      record {
+        inside = omega arith;
+        counted = omega arith;
+        begun = omega arith;
+        so_far = judge-passed lines (walk_on (length m) m e 0 1) none ∙ ap (λ (j : ℕ). walk_on j m e 0 1) (fuel_start (length m));
+      } in
       subst (λ (p : ℕ). Walking m e p 1) (sym (first_stands h o).at_place) w
 
 -- the header at p
@@ -100,13 +100,13 @@ module _ (m : Bytes) (e : Envelope) (p n : ℕ) (w : Walking m e p n) where
         let b = w.inside in
         let c = w.counted in
         let w' : Walking m e (p + d) (n + 1) =
-            record {
-              inside = near;
-              counted = omega arith;
-              begun = omega arith;
-              so_far =
-                  judged
-                  ∙ judge-passed next_lines (walk_on (length m - n) m e (p + d) (n + 1)) none
-                  ∙ ap (λ (j : ℕ). walk_on j m e (p + d) (n + 1)) (fuel_next (length m) n (omega arith));
-            } in
+        record {
+          inside = near;
+          counted = omega arith;
+          begun = omega arith;
+          so_far =
+              judged
+              ∙ judge-passed next_lines (walk_on (length m - n) m e (p + d) (n + 1)) none
+              ∙ ap (λ (j : ℕ). walk_on j m e (p + d) (n + 1)) (fuel_next (length m) n (omega arith));
+        } in
         subst (λ (q : ℕ). Walking m e q (n + 1)) (sym a.found.at_place) w'

@@ -14,10 +14,7 @@ pub fn first(message: &[u8], e: Envelope) -> Result<InnerHeader, Refusal>
     if message.len() < 64 {
         return Err(Refusal::InnerTooShort);
     }
-    let header = InnerHeader {
-        message,
-        at: 0,
-    };
+    let header = InnerHeader { message, at: 0 };
     refuse(!header.begins(), Refusal::NotHeader)?;
     refuse(header.is_related(), Refusal::FirstRelated)?;
     refuse(!header.belongs(e), Refusal::InnerSession)?;

@@ -60,7 +60,11 @@ impl Connection {
     pub fn cipher_used(self) -> u16
         ensures { result ≡ cipher_used (connection_of self) }
     {
-        if self.dialect == SMB_311 { self.cipher } else { 1 }
+        if self.dialect == SMB_311 {
+            self.cipher
+        } else {
+            1
+        }
     }
 
     // Number 29 may be given.

@@ -30,7 +30,11 @@ impl From<u8> for Role {
     ghost from_gives = { λ number role. role_in role ≡ role_of number };
 
     fn from(number: u8) -> Role {
-        if number == CLIENT { Role::Client } else { Role::Server }
+        if number == CLIENT {
+            Role::Client
+        } else {
+            Role::Server
+        }
     }
 }
 

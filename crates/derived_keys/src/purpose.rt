@@ -50,10 +50,22 @@ pub fn of_311(chain: &[u8]) -> Purposes
     ensures { IsFor311 chain.now result }
 {
     Purposes {
-        signing: Purpose { label: b"SMBSigningKey\0", context: chain },
-        application: Purpose { label: b"SMBAppKey\0", context: chain },
-        client_to_server: Purpose { label: b"SMBC2SCipherKey\0", context: chain },
-        server_to_client: Purpose { label: b"SMBS2CCipherKey\0", context: chain },
+        signing: Purpose {
+            label: b"SMBSigningKey\0",
+            context: chain,
+        },
+        application: Purpose {
+            label: b"SMBAppKey\0",
+            context: chain,
+        },
+        client_to_server: Purpose {
+            label: b"SMBC2SCipherKey\0",
+            context: chain,
+        },
+        server_to_client: Purpose {
+            label: b"SMBS2CCipherKey\0",
+            context: chain,
+        },
     }
 }
 
@@ -62,9 +74,21 @@ pub fn of_300() -> Purposes<'static>
     ensures { IsFor300 result }
 {
     Purposes {
-        signing: Purpose { label: b"SMB2AESCMAC\0", context: b"SmbSign\0" },
-        application: Purpose { label: b"SMB2APP\0", context: b"SmbRpc\0" },
-        client_to_server: Purpose { label: b"SMB2AESCCM\0", context: b"ServerIn \0" },
-        server_to_client: Purpose { label: b"SMB2AESCCM\0", context: b"ServerOut\0" },
+        signing: Purpose {
+            label: b"SMB2AESCMAC\0",
+            context: b"SmbSign\0",
+        },
+        application: Purpose {
+            label: b"SMB2APP\0",
+            context: b"SmbRpc\0",
+        },
+        client_to_server: Purpose {
+            label: b"SMB2AESCCM\0",
+            context: b"ServerIn \0",
+        },
+        server_to_client: Purpose {
+            label: b"SMB2AESCCM\0",
+            context: b"ServerOut\0",
+        },
     }
 }

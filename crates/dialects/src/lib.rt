@@ -72,6 +72,10 @@ impl From<bool> for KeySize {
     ghost from_gives = { λ wide size. wide_in size ≡ wide };
 
     fn from(wide: bool) -> KeySize {
-        if wide { KeySize::Bits256 } else { KeySize::Bits128 }
+        if wide {
+            KeySize::Bits256
+        } else {
+            KeySize::Bits128
+        }
     }
 }

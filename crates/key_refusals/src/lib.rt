@@ -20,7 +20,13 @@ pub fn material_tests(dialect: u16, cipher: u16, material: &[u8]) -> Result<(), 
 }
 
 // 40, 18, 19.
-pub fn derivation_tests(dialect: u16, cipher: u16, material: &[u8], chain: &[u8], keys: &[u8]) -> Result<(), Refusal>
+pub fn derivation_tests(
+    dialect: u16,
+    cipher: u16,
+    material: &[u8],
+    chain: &[u8],
+    keys: &[u8],
+) -> Result<(), Refusal>
     ensures { number_in result ≡ first_of (derivation_tests dialect cipher chain.now material.now keys.now) }
 {
     let bytes = KeySize::of(dialect, cipher).place_bytes();

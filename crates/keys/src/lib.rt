@@ -39,6 +39,10 @@ pub fn derive(
 {
     key_refusals::derivation_tests(dialect, cipher, material, chain, keys)?;
     let size = KeySize::of(dialect, cipher);
-    write(keys, size, derived_keys::derived(dialect, cipher, chain, material));
+    write(
+        keys,
+        size,
+        derived_keys::derived(dialect, cipher, chain, material),
+    );
     Ok(())
 }

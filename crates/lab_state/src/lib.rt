@@ -24,7 +24,7 @@ pub fn fresh(dialect: u16, cipher: u16) -> Lab
     ensures { state_of result ≡ fresh_state dialect cipher }
 {
     let zeros = [0u8; 64];
-    let none = table_by_value::empty();
+    let none = Table::empty();
     Lab {
         dialect: dialect,
         cipher: cipher,

@@ -67,7 +67,7 @@ fn opened(lab: Lab, from_server: bool, message: &mut [u8]) -> u32
 {
     let c = receiver(lab, from_server);
     let table = lab.table;
-    answer::number(table_by_value::open_in(table, c, message))
+    answer::number(table.open(c, message))
 }
 
 // Kind 3: a plain session from the session chain, of an 8-byte id, the high byte first, and a 16-byte key. Then the session chain is the
@@ -90,18 +90,17 @@ fn added(from: Lab, payload: &[u8]) -> Stepped
         anonymous: false,
     };
     let chain = from.session;
-    let table = from.table;
-    let r = table_by_value::add_in(table, a, &payload[8..24], &chain);
-    let after = r.table;
+    let mut table = from.table;
+    let number = answer::number(table.add(a, &payload[8..24], &chain));
     let connection = from.connection;
     Stepped {
-        number: r.number,
+        number,
         lab: Lab {
             dialect: from.dialect,
             cipher: from.cipher,
             connection: connection,
             session: connection,
-            table: after,
+            table,
         },
     }
 }

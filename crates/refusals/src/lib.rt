@@ -40,7 +40,10 @@ pub fn message_tests(c: Connection, m: &[u8]) -> Result<(), Refusal>
 {
     refuse(!c.encrypting(), Refusal::NotEncrypting)?;
     refuse(m.len() <= 52, Refusal::TooShort)?;
-    refuse(connection::longest_message() < inner_length(m), Refusal::TooLong)
+    refuse(
+        connection::longest_message() < inner_length(m),
+        Refusal::TooLong,
+    )
 }
 
 // 4, 5, 29: of the header that is opened.

@@ -52,7 +52,13 @@ pub fn open_record(s: &Session, c: Connection, message: &mut [u8]) -> Answer
 }
 
 // 40, 18 to 22: of adding.
-fn add_tests(a: Adding, taken: bool, room: bool, material: &[u8], chain: &[u8]) -> Result<(), Refusal>
+fn add_tests(
+    a: Adding,
+    taken: bool,
+    room: bool,
+    material: &[u8],
+    chain: &[u8],
+) -> Result<(), Refusal>
     ensures { number_in result ≡ first_of (add_tests (adding_of a chain.now material.now) taken room) }
 {
     refuse(chain.len() != 64, Refusal::BadLength)?;

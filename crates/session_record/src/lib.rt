@@ -14,7 +14,6 @@ ghost use Rattle.session_record.specs.Clauses.{named_id};
 ghost use Rattle.session_record.specs.Adds.{adding_for};
 
 use connection::{Connection, KeySize, Role};
-
 pub use lines::{place_tests, record_tests};
 pub use new::fresh;
 

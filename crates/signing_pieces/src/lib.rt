@@ -140,8 +140,14 @@ impl SignState {
     fn joined_tests(self) -> Result<(), Refusal>
         ensures { number_in result ≡ joined_else self 0 }
     {
-        refuse((self.begun == 0) | (self.length < 64), Refusal::InnerTooShort)?;
-        refuse(!protocol_id::begins(&self.header, 0, 0xFE), Refusal::NotHeader)
+        refuse(
+            (self.begun == 0) | (self.length < 64),
+            Refusal::InnerTooShort,
+        )?;
+        refuse(
+            !protocol_id::begins(&self.header, 0, 0xFE),
+            Refusal::NotHeader,
+        )
     }
 
     // The signature of the joined bytes, with the flag as set.

@@ -10,9 +10,9 @@ ghost use Rattle.compound.specs.Reading.{envelope_of};
 ghost use Rattle.transform_header.specs.Reading.{header_from};
 ghost use Rattle.transform.specs.Steps.{Sized, size_then_walk, OpensBody, OpensMessage};
 
+use crate::cipher::Keyed;
 use answer::{Answer, Refusal, refuse};
 use compound::Envelope;
-use crate::cipher::Keyed;
 use runs::copy;
 use transform_header::TransformHeader;
 

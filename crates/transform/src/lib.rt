@@ -19,7 +19,12 @@ use connection::Connection;
 use transform_header::TransformHeader;
 
 // 40, 1 to 5, 29, 6: of an open, all before the tag. What passes has a header.
-fn open_tests(c: Connection, key: &[u8], id: u64, message: &[u8]) -> Result<TransformHeader, Refusal>
+fn open_tests(
+    c: Connection,
+    key: &[u8],
+    id: u64,
+    message: &[u8],
+) -> Result<TransformHeader, Refusal>
     ensures { Opens (connection_of c) key.now id message.now result }
 {
     refusals::key_tests(c, key)?;
@@ -54,12 +59,21 @@ fn seal_tests(c: Connection, key: &[u8], id: u64, counter: u64, message: &[u8]) 
 {
     lines_before(c, key, message)?;
     let headers = body::walk_inner(message, envelope::sent(c.role(), id))?;
-    refuse(counter == connection::last_counter(), Refusal::CounterUsedUp)?;
+    refuse(
+        counter == connection::last_counter(),
+        Refusal::CounterUsedUp,
+    )?;
     Ok(headers)
 }
 
 // Seals the message in place: 40, 1, 2, 3, 11 to 16, 17. Done, the counter is one up. Refused, it and the message are as they were lent.
-pub fn seal_under(c: Connection, key: &[u8], id: u64, counter: &mut u64, message: &mut [u8]) -> Answer
+pub fn seal_under(
+    c: Connection,
+    key: &[u8],
+    id: u64,
+    counter: &mut u64,
+    message: &mut [u8],
+) -> Answer
     ensures { Makes (sealing_under (connection_of c) key.now id) (message_and_counter message.old counter.old) (answer_of result) (message_and_counter message.new counter.new) }
 {
     let headers = seal_tests(c, key, id, *counter, message)?;

@@ -23,8 +23,8 @@ returns c = λ h.
     let call : ℕ → Call = λ (x : ℕ).
     adding (record { dialect = s.dialect; cipher = s.cipher; chain = s.session; id = x; material = bytes_at 8 16 m; guest = false; anonymous = false }) in
     let w = only_table s.table in
-    let r = c.add_in-r.ensures.0 in
+    let r = c.add.ensures.0 in
     let id = c.u64_at.ensures in (
-      r.number ∙ ap (λ (x : ℕ). answer_number (answer suite (call x) w)) id,
+      c.number-number.ensures ∙ r.number ∙ ap (λ (x : ℕ). answer_number (answer suite (call x) w)) id,
       ap {B = State} (λ (x : Lent). joined x.table s) r.leaves ∙ ap {B = State} (λ (x : ℕ). joined (left suite (call x) w).table s) id,
     )
