@@ -12,7 +12,7 @@ use lib.ListN.{length, get_or, set}
 use Rattle.std.specs.Prelude.{Some, None, Result, position}
 use Rattle.std.specs.Option.{is_some}
 use Rattle.protocol.specs.Bytes.{Bytes}
-use Rattle.protocol.specs.Answer.{Answer, done, refused, answer_number, when_done, Test, refuse◌when◌, judge_after}
+use Rattle.protocol.specs.Answer.{Answer, done, refused, answer_number, when_done, refuse◌when◌, judge_after}
 use Rattle.protocol.specs.Connection.{Connection, encrypts, last_counter}
 use Rattle.protocol.specs.TransformHeader.{inner, session_id_of, TransformHeader}
 use Rattle.protocol.specs.Compound.{walk}
@@ -22,13 +22,13 @@ use Rattle.protocol.specs.Transform.{opened_to}
 use Rattle.protocol.specs.Calls.{Call, derivation, folding, fold_beginning, fold_piece, fold_finishing, sealing_under, opening_under, signing_under, verifying_under}
 use Rattle.protocol.specs.Calls.{adding, removing, stepping, sealing, opening}
 use Rattle.protocol.specs.Calls.{sign_beginning, sign_piece, sign_finishing, verify_finishing}
-use Rattle.protocol.specs.Calls.{Lent, lines}
+use Rattle.protocol.specs.Calls.{lines}
 use Rattle.protocol.specs.Calls.{sent_by, only_table, message_and_table, message_tests, record_tests, add_tests, seal_tests, sealed_with, open_tests, plaintext, verdict}
 use Rattle.protocol.specs.Calls.{tests, effect, answer, left}
 use Rattle.protocol.specs.Contract.{Makes, Returns}
 use Rattle.protocol.specs.Suite.{suite, kdf}
 use Rattle.protocol.proofs.AnswerLaws.{when_part, when_two}
-use Rattle.protocol.proofs.CallLaws.{makes_when, lines-refused, lines-done, number-lines}
+use Rattle.protocol.proofs.CallLaws.{makes_when}
 use Rattle.protocol.proofs.Judging.{judge-done}
 use Rattle.transform_header.proofs.HeaderIn.{header-there}
 use Rattle.answer.specs.declared.refusal.Refusal.{Refusal}

@@ -8,11 +8,10 @@ use borrow.Author.Rules.{rules}
 use Rattle.std.proofs.lemmas.Result.{err_from_is_err_and}
 use Rattle.answer.specs.Reading.{answer_of}
 use Rattle.connection.specs.Reading.{connection_of}
-use Rattle.session_record.specs.declared.Session.{Session}
 use Rattle.session_record.specs.Clauses.{SealsWith}
-use Rattle.session_record.specs.Reading.{is_wanted, session_of}
-use Rattle.session_table.specs.Place.{place_in}
-use Rattle.session_table.proofs.PlaceLaws.{place_is}
+use Rattle.session_record.specs.Reading.{is_wanted, session_of, stepped}
+use Rattle.session_table.specs.Place.{place_in, put_at, record_at}
+use Rattle.session_table.proofs.PlaceLaws.{place_is, place_else}
 use Rattle.session_table.proofs.StepLaws.{step-none}
 use Rattle.session_table.proofs.TableLink.{keeps}
 use Rattle.session_table.proofs.TableCalls.{sealed_says}
@@ -45,4 +44,6 @@ returns c =
     let at = ap (place_in t) c.find-place.ensures.first ∙ place_is (is_wanted true a.id) t in
     let fits : s.counter < 2 ^ 64 = search rules in
     let told = subst (λ r. SealsWith (session_of s) k a.id m c.seal_record.new.message (answer_of r)) c.in_ok-headers.was c.seal_record.ensures in
-    sealed_says k a.id m t _ c.seal_record.new.message i 1 s _ at c.record-s.ensures fits told refl (c.put.ensures ∙ ap (set t i) c.stepped.ensures)
+    let here = c.unwrap_or.ensures ∙ place_else t c.find-place.result in
+    let moved = c.step.ensures ∙ ap (λ j. put_at j (stepped 1 (record_at j t)) t) here ∙ ap (λ x. put_at i (stepped 1 x) t) (sym c.record-s.ensures) in
+    sealed_says k a.id m t _ c.seal_record.new.message i 1 s _ at c.record-s.ensures fits told refl moved
