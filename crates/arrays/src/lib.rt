@@ -13,33 +13,3 @@ pub fn bytes_at<const N: usize>(b: &[u8], at: usize) -> [u8; N]
     r.copy_from_slice(&b[at..at + N]);
     r
 }
-
-// ---- older names, until their last caller is gone
-
-pub fn bytes_11(b: &[u8], at: usize) -> [u8; 11]
-    requires { at + 11 ≤ length b.now }
-    ensures { result ≡ bytes_at at 11 b.now }
-{
-    bytes_at(b, at)
-}
-
-pub fn bytes_12(b: &[u8], at: usize) -> [u8; 12]
-    requires { at + 12 ≤ length b.now }
-    ensures { result ≡ bytes_at at 12 b.now }
-{
-    bytes_at(b, at)
-}
-
-pub fn bytes_16(b: &[u8], at: usize) -> [u8; 16]
-    requires { at + 16 ≤ length b.now }
-    ensures { result ≡ bytes_at at 16 b.now }
-{
-    bytes_at(b, at)
-}
-
-pub fn bytes_32(b: &[u8], at: usize) -> [u8; 32]
-    requires { at + 32 ≤ length b.now }
-    ensures { result ≡ bytes_at at 32 b.now }
-{
-    bytes_at(b, at)
-}

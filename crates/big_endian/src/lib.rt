@@ -23,31 +23,3 @@ pub fn number_at<const N: usize>(b: &[u8], at: usize) -> u64
     runs::copy(&mut word, 8 - N, &b[at..at + N]);
     u64::from_be_bytes(word)
 }
-
-// ---- older names, until their last caller is gone
-
-pub fn u32_bytes(x: u32) -> [u8; 4]
-    ensures { result ≡ to_big_endian 4 x }
-{
-    to_bytes(u64::from(x))
-}
-
-pub fn u64_bytes(x: u64) -> [u8; 8]
-    ensures { result ≡ to_big_endian 8 x }
-{
-    to_bytes(x)
-}
-
-pub fn u32_at(b: &[u8], at: usize) -> u32
-    requires { at + 4 ≤ length b.now }
-    ensures { result ≡ big_endian (bytes_at at 4 b.now) }
-{
-    number_at::<4>(b, at) as u32
-}
-
-pub fn u64_at(b: &[u8], at: usize) -> u64
-    requires { at + 8 ≤ length b.now }
-    ensures { result ≡ big_endian (bytes_at at 8 b.now) }
-{
-    number_at::<8>(b, at)
-}

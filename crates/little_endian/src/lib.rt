@@ -23,38 +23,3 @@ pub fn number_at<const N: usize>(b: &[u8], at: usize) -> u64
     runs::copy(&mut word, 0, &b[at..at + N]);
     u64::from_le_bytes(word)
 }
-
-// ---- older names, until their last caller is gone
-
-pub fn u32_bytes(x: u32) -> [u8; 4]
-    ensures { result ≡ to_little_endian 4 x }
-{
-    to_bytes(u64::from(x))
-}
-
-pub fn u64_bytes(x: u64) -> [u8; 8]
-    ensures { result ≡ to_little_endian 8 x }
-{
-    to_bytes(x)
-}
-
-pub fn u32_at(b: &[u8], at: usize) -> u32
-    requires { at + 4 ≤ length b.now }
-    ensures { result ≡ little_endian (bytes_at at 4 b.now) }
-{
-    number_at::<4>(b, at) as u32
-}
-
-pub fn u64_at(b: &[u8], at: usize) -> u64
-    requires { at + 8 ≤ length b.now }
-    ensures { result ≡ little_endian (bytes_at at 8 b.now) }
-{
-    number_at::<8>(b, at)
-}
-
-pub fn u16_at(b: &[u8], at: usize) -> u16
-    requires { at + 2 ≤ length b.now }
-    ensures { result ≡ little_endian (bytes_at at 2 b.now) }
-{
-    number_at::<2>(b, at) as u16
-}

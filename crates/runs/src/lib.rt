@@ -1,7 +1,7 @@
 // Runs of bytes, replaced and xored.
 #![tactic(auto)]
 
-ghost use Rattle.std.specs.Prelude.{◌≡◌, ◌+◌, ◌≤◌, length, drop};
+ghost use Rattle.std.specs.Prelude.{◌≡◌, ◌+◌, ◌≤◌, length};
 ghost use Rattle.std.proofs.Math.Seq.{paste};
 ghost use Rattle.octets.specs.Xor.{xor};
 
@@ -32,23 +32,4 @@ pub fn xor<const N: usize>(x: [u8; N], y: [u8; N]) -> [u8; N]
         r[i] ^= y[i];
     }
     r
-}
-
-// ---- older names, until their last caller is gone
-
-pub fn xor_at(buf: &mut [u8], at: usize, m: usize, ks: [u8; 16])
-    requires { (at + m ≤ length buf.old) × (m ≤ 16) }
-    ensures { buf.new ≡ paste buf.old at (xor (drop at buf.old) ks) m }
-{
-    let mut j: usize = 0;
-    while j < m {
-        buf[at + j] = buf[at + j] ^ ks[j];
-        j += 1;
-    }
-}
-
-pub fn xor_16(a: [u8; 16], b: [u8; 16]) -> [u8; 16]
-    ensures { result ≡ xor a b }
-{
-    xor(a, b)
 }
