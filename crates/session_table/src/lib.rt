@@ -7,7 +7,7 @@ ghost use Rattle.protocol.specs.Calls.{adding, removing, sealing, opening, only_
 ghost use Rattle.protocol.specs.Contract.{Makes, Returns};
 ghost use Rattle.answer.specs.Reading.{number_in, answer_of};
 ghost use Rattle.connection.specs.Reading.{connection_of};
-ghost use Rattle.session_record.specs.Reading.{is_wanted};
+ghost use Rattle.session_record.specs.Reading.{is_wanted, stepped};
 ghost use Rattle.session_record.specs.Adds.{adding_of};
 ghost use Rattle.session_table.specs.Place.{place_in, record_at, put_at};
 ghost use Rattle.session_table.specs.Reading.{table_of};
@@ -54,6 +54,15 @@ fn put(table: &mut [Session], place: Option<usize>, s: Session)
     }
 }
 
+// The counter step of the record at a place: up by that many, and unchanged where it would pass the last.
+pub fn step(table: &mut [Session], i: usize, by: u64)
+    ensures { table.new ≡ put_at i (stepped by (record_at i table.old)) table.old }
+{
+    if i < table.len() {
+        table[i] = table[i].stepped(by);
+    }
+}
+
 // Adds a session of a new id in the first free record: 40, 18 to 22. Refused, the table is as it was.
 pub fn add(table: &mut [Session], a: Adding, material: &[u8], chain: &[u8]) -> Result<(), Refusal>
     ensures { Returns (adding (adding_of a chain.now material.now)) (only_table (table_of table.old)) (number_in result) (only_table (table_of table.new))
@@ -84,7 +93,9 @@ pub fn seal(table: &mut [Session], c: Connection, id: u64, message: &mut [u8]) -
     let place = find(table, id);
     let s = record(table, place);
     let headers = session_calls::seal_record(&s, c, id, message)?;
-    put(table, place, s.stepped(1));
+    if let Some(i) = place {
+        step(table, i, 1);
+    }
     Ok(headers)
 }
 
