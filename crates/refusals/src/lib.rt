@@ -38,12 +38,10 @@ fn inner_length(m: &[u8]) -> usize
 pub fn message_tests(c: Connection, m: &[u8]) -> Result<(), Refusal>
     ensures { number_in result ≡ first_of (message_tests (connection_of c) m.now) }
 {
+    let long = connection::longest_message() < inner_length(m);
     refuse(!c.encrypting(), Refusal::NotEncrypting)?;
     refuse(m.len() <= 52, Refusal::TooShort)?;
-    refuse(
-        connection::longest_message() < inner_length(m),
-        Refusal::TooLong,
-    )
+    refuse(long, Refusal::TooLong)
 }
 
 // 4, 5, 29: of the header that is opened.

@@ -4,7 +4,7 @@ use Rattle.std.proofs.Common.{◌≡◌, refl, ap, ◌∙◌, Bool, true, false,
 use borrow.Author.Tests.{ltb-false}
 use Rattle.std.specs.Prelude.{Option, Some, None, position}
 use Rattle.std.specs.List.{position_or_len}
-use Rattle.std.specs.Option.{is_some, unwrap_or}
+use Rattle.std.specs.Option.{is_some}
 use Rattle.std.proofs.lemmas.List.Recursion.{is_position_or_len}
 use Rattle.std.proofs.lemmas.List.Sums.{prefix_len-le-length}
 use Rattle.std.proofs.lemmas.List.Quantifiers.{position-Some}
@@ -43,8 +43,3 @@ module _ (p : Session → Bool) (ys : List Session) where
 
   pub wanted-there : (i : ℕ) → position p ys ≡ Some i → p (get_or ys i free) ≡ true
   wanted-there i e = (position-Some p ys i free e).1
-
--- where nothing was found, the place is past the end
-pub place_else : (ys : List Session) (found : Option ℕ) → unwrap_or found (length ys) ≡ place_in ys found
-place_else ys None = refl
-place_else ys (Some i) = refl

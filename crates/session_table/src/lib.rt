@@ -54,7 +54,7 @@ fn put(table: &mut [Session], place: Option<usize>, s: Session)
     }
 }
 
-// The counter step of the record at a place: up by that many, and unchanged where it would pass the last. Past the end nothing changes.
+// The counter step of the record at a place: up by that many, and unchanged where it would pass the last.
 pub fn step(table: &mut [Session], i: usize, by: u64)
     ensures { table.new ≡ put_at i (stepped by (record_at i table.old)) table.old }
 {
@@ -93,7 +93,9 @@ pub fn seal(table: &mut [Session], c: Connection, id: u64, message: &mut [u8]) -
     let place = find(table, id);
     let s = record(table, place);
     let headers = session_calls::seal_record(&s, c, id, message)?;
-    step(table, place.unwrap_or(table.len()), 1);
+    if let Some(i) = place {
+        step(table, i, 1);
+    }
     Ok(headers)
 }
 
