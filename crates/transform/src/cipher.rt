@@ -1,4 +1,5 @@
 // AES-CCM and AES-GCM by their number: 2 and 4 are GCM, which takes the first 12 bytes of the nonce field, any other CCM, which takes 11.
+// Each call asks the number by itself: with a trait of the two modes each contract would stand three times, and the number would be asked all the same.
 ghost use Rattle.std.specs.Prelude.{◌≡◌, true, ℕ, ◌<◌, List, length};
 ghost use Rattle.gcm.specs.Clauses.{longest};
 ghost use Rattle.aes.specs.KeySizes.{is_key_length};
