@@ -7,7 +7,6 @@ use native.Mathlib.Omega.{arith}
 use borrow.Author.Tests.{not-true, not-false}
 use Rattle.octets.proofs.Paste.{paste_all}
 use Rattle.connection.specs.Reading.{flag}
-use Rattle.sha512.proofs.AnyState.{is_finished}
 use Rattle.fold_pieces.proofs.FinishLaws.{closed_40, closed_23, closed_out, closed_in}
 use Rattle.fold_pieces.proofs.FoldState.close.Goals as goal
 
@@ -34,4 +33,4 @@ returns c =
     let size = f.type_inv.1.0.1 in
     let e = ap (λ (b : Bool). flag a.self.underway && b) (sym c.admits.ensures) ∙ not-false _ (ap not c.if-not-self-admits.false) in
     let copied = c.copy.ensures ∙ paste_all v 0 f.result (omega (arith, size, c.if-chain-ne64.false)) in
-    closed_in a.self a.allowed v c.if-chain-ne64.false e (not-false _ (ap not c.if-not-allowed.false)) (copied ∙ is_finished _ f.ensures)
+    closed_in a.self a.allowed v c.if-chain-ne64.false e (not-false _ (ap not c.if-not-allowed.false)) (copied ∙ f.ensures)
