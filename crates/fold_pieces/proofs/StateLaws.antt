@@ -8,7 +8,8 @@ use Prim.Native.Nat.{ℕ, ◌+◌}
 use borrow.Author.Tests.{eq-eqb, ne_eqb, eqb-true}
 use lib.Dec.{eqb, leb}
 use lib.ListN.{length, take, replicate, length-append}
-use Rattle.sha512.specs.Code.{Sha512, nothing_taken, updated}
+use Rattle.sha512.specs.declared.Sha512.{Sha512}
+use Rattle.sha512.specs.Code.{nothing_taken, updated}
 use Rattle.sha512.proofs.Beginning.{nothing_holds}
 use Rattle.sha512.proofs.AnyState.{updated_holds}
 use Rattle.protocol.specs.Bytes.{Bytes}

@@ -4,11 +4,7 @@ use Rattle.std.specs.Prelude.{ℕ, List}
 use Rattle.sha_2.specs.Running as running
 use Rattle.sha_2.specs.Running.{State}
 use Rattle.sha_2.specs.Sha512.{sha512}
-use Rattle.sha_2_running.specs.declared.Running.{Running}
-
--- a word is a number
-abbrev pub Sha512 : Type 0
-Sha512 = Running ℕ 80 128 64
+use Rattle.sha512.specs.declared.Sha512.{Sha512}
 
 -- the fields as the definitions have them, and back
 abbrev pub state : Sha512 → State

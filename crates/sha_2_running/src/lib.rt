@@ -15,9 +15,9 @@ use sha_2_compression::{Algorithm, hash_blocks};
 #[repr(C)]
 #[derive(Clone, Copy)]
 pub struct Running<W, const ROUNDS: usize, const BLOCK: usize, const DIGEST: usize> {
-    hash: [W; 8],
-    buffer: [u8; BLOCK],
-    count: u64,
+    pub hash: [W; 8],
+    pub buffer: [u8; BLOCK],
+    pub count: u64,
 }
 
 impl<

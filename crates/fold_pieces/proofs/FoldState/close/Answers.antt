@@ -5,7 +5,6 @@ use mathlib.Core.Path.{refl, sym, ap, ◌∙◌}
 use borrow.Author.Tests.{not-true, not-false, eqb-true, eqb-false}
 use Rattle.std.proofs.lemmas.Result.{err_from_is_err_and}
 use Rattle.connection.specs.Reading.{flag}
-use Rattle.sha512.proofs.AnyState.{is_finished}
 use Rattle.answer.proofs.Results.{applies, applies-not}
 use Rattle.fold_pieces.proofs.FinishLaws.{closed_40, closed_23, closed_out, closed_in}
 use Rattle.fold_pieces.proofs.FoldState.close.Goals as goal
@@ -32,7 +31,7 @@ returns-then-allowed c =
     let size = eqb-true _ 64 (not-false _ (applies-not _ _ _ c.refuse.ensures _ c.in_ok-refuse.was)) in
     let fits = not-false _ (applies-not _ _ _ c.refuse-2.ensures _ c.in_ok-refuse-2.was) in
     let e = ap (λ (b : Bool). flag a.self.underway && b) (sym c.admits.ensures) ∙ fits in
-    rw c.if-allowed.true (closed_in a.self true a.chain.now size e refl (c.copy_from_slice.ensures.after ∙ is_finished _ c.finish.ensures))
+    rw c.if-allowed.true (closed_in a.self true a.chain.now size e refl (c.copy_from_slice.ensures.after ∙ c.finish.ensures))
 
 pub returns-else-allowed : goal.returns-else-allowed
 returns-else-allowed c =

@@ -9,7 +9,6 @@ use lib.ListN.{length}
 use Rattle.octets.proofs.BoolLaws.{and_true}
 use Rattle.protocol.specs.Connection.{longest_message}
 use Rattle.connection.specs.Reading.{flag}
-use Rattle.sha512.proofs.AnyState.{is_updated}
 use Rattle.fold_pieces.proofs.StateLaws.{piece_refused, piece_taken}
 use borrow.Author.Rules.{rules}
 use Rattle.fold_pieces.proofs.FoldState.piece.Goals as goal
@@ -31,4 +30,4 @@ pub returns : goal.returns
 returns c =
     let a = c.args in
     let e = ap (λ (b : Bool). flag a.self.underway && b) (sym c.fits.ensures) ∙ not-false _ (ap not c.if-not-takes.false) in
-    piece_taken a.self a.piece.now e (is_updated _ _ _ c.update.ensures) c.head_with.ensures c.step-2.ensures
+    piece_taken a.self a.piece.now e c.update.ensures c.head_with.ensures c.step-2.ensures
