@@ -5,7 +5,7 @@ ghost use Rattle.trace_format.specs.Format.{edition_of, read_at};
 ghost use Rattle.lab_state.specs.Reading.{state_of};
 ghost use Rattle.lab.specs.Reading.{Turns};
 
-pub use lab_state::{Lab, fresh};
+pub use lab_state::Lab;
 use lab_steps::step;
 
 // The payload that the replay holds; a longer one gets "long" for its number.
@@ -35,15 +35,15 @@ pub fn replay_at(edition: u8, lab: Lab, file: &mut [u8], at: usize) -> Turn
 {
     match trace_reader::read_record(edition, file, at) {
         Ok(Some(record)) if record.len <= HELD => {
-            let r = step(
-                lab,
+            let mut after = lab;
+            let number = step(
+                &mut after,
                 record.kind,
                 record.from_server,
                 &mut file[record.start..record.next],
             );
-            let after = r.lab;
             Turn {
-                line: Line::Number(r.number),
+                line: Line::Number(number),
                 next: record.next,
                 lab: after,
             }

@@ -5,6 +5,7 @@
 
 mod replay;
 
+use lab::Lab;
 use program_files::{Program, argument, gather, has_argument, open};
 use program_text::{Lines, asks_help, asks_version, front};
 use replay::Replay;
@@ -29,7 +30,7 @@ fn replay_bytes<R: Read>(program: Program<'_>, file: &mut R, name: &[u8]) {
         program,
         name,
         edition: head.edition,
-        lab: lab::fresh(head.dialect, u16::from(head.cipher)),
+        lab: Lab::new(head.dialect, u16::from(head.cipher)),
         cursor: Cursor::first(g.have, g.ended),
         window,
         lines: Lines::new(),

@@ -13,9 +13,9 @@ use Rattle.lab_steps.proofs.opened.Goals as goal
 pub returns : goal.returns
 returns c =
     let a = c.args in
-    let w = message_and_table a.message.now (state_of a.lab).table in
+    let w = message_and_table a.message.now (state_of a.lab.now).table in
     let o = c.«open».ensures in
-    let who = c.receiver-c.ensures in (
+    let who = c.receiver-receiver.ensures in (
       c.number.ensures ∙ numbered _ ∙ ap answer_number (o.answers ∙ ap (λ (x : Connection). answer suite (opening x) w) who),
       ap (λ (x : Lent). x.message) o.leaves ∙ ap {B = Bytes} (λ (x : Connection). (left suite (opening x) w).message) who,
     )

@@ -10,7 +10,7 @@ use Rattle.session_record.specs.Reading.{free}
 use Rattle.session_record.proofs.StoredLaws.{free_read}
 use Rattle.session_table.specs.Reading.{table_of}
 use Rattle.lab_rules.specs.Steps.{State}
-use Rattle.lab_state.proofs.fresh.Goals as goal
+use Rattle.lab_state.proofs.Lab.new.Goals as goal
 
 pub returns : goal.returns
 returns c =
