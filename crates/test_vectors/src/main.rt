@@ -56,9 +56,11 @@ fn run_line(rt: &HostRuntime, line: &[u8]) -> io::Result<()> {
 
 fn main(rt: HostRuntime) -> io::Result<()> {
     let mut input = Vec::new(rt.alloc());
-    rt.stdin().take(65536).read_to_end(&mut input)?;
+    let read = rt.stdin().take(65536).read_to_end(&mut input);
     for line in input.split_inclusive(|b| *b == b'\n') {
         run_line(&rt, line)?;
     }
+    // said after what was read has been run
+    read?;
     Ok(())
 }
