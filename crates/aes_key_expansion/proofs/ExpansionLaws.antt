@@ -1,16 +1,17 @@
--- The key expansion goes on by a round key: four words, made of those nk places before and of the last word. Said once over nk, and then
--- for a key of four words and for one of eight, which differ in when the last word is substituted.
+-- The key expansion goes on by a round key: four words, made of those nk places before and of the last word. Said once over nk; a key of four
+-- words and one of eight differ in when the last word is substituted.
 use mathlib.Core.Bool.{Bool, true, false, cond, ◌&&◌}
-use mathlib.Core.Path.{◌≡◌, refl, ◌∙◌, ap, sym}
+use mathlib.Core.Path.{◌≡◌, refl, ◌∙◌, ap, sym, subst}
 use mathlib.Core.List.{List, [], ◌∷◌, ◌++◌, map, reverse}
-use Prim.Native.Nat.{ℕ, suc, ◌+◌, ◌-◌, ◌*◌, ◌/◌, ◌%◌, ◌<◌}
+use Rattle.std.proofs.Common.{inl, inr, get_or-set_other, get_or-set_same}
+use Prim.Native.Nat.{ℕ, zero, suc, ◌+◌, ◌-◌, ◌*◌, ◌/◌, ◌%◌, ◌<◌, ◌≤◌}
 use native.Mathlib.Omega.{arith}
 use borrow.Author.Tests.{ne_eqb}
 use lib.Dec.{eqb, ltb}
-use lib.ListN.{length, get_or}
+use lib.ListN.{length, get_or, set}
 use Rattle.octets.proofs.Elements.{whole}
 use Rattle.rijndael.specs.KeyExpansion.{key_expansion, round_keys, words, key_words, temp, rcon, xpower, word_of, xor_word, sub_word, rot_word}
-use Rattle.aes_key_expansion.specs.NextKey.{next_word, next_key, at_multiple, at_middle}
+use Rattle.aes_key_expansion.specs.NextKey.{next_word, next_key, IsOwn}
 
 -- ---- what a word takes in of the word before it, by its place
 
@@ -23,6 +24,31 @@ temp_multiple nk i c w e d = rw (e, d)
 temp_middle : (i : ℕ) (w : List ℕ) → i % 8 ≡ 4 → temp 8 i w ≡ sub_word w
 unfolding temp
 temp_middle i w e = rw e
+
+-- with 4 · own words, at word 4 r
+multiple_1 : (r : ℕ) (w : List ℕ) → temp 4 (4 * r) w ≡ xor_word (sub_word (rot_word w)) (xpower (r / 1 - 1) ∷ 0 ∷ 0 ∷ 0 ∷ [])
+multiple_1 r w =
+    let z : 4 * r % 4 ≡ 0 = omega arith in
+    let i : 4 * r / 4 - 1 ≡ r / 1 - 1 = omega arith in
+    temp_multiple 4 (4 * r) _ w z (ap xpower i)
+
+multiple_2 : (r : ℕ) (w : List ℕ) → r % 2 ≡ 0 → temp 8 (4 * r) w ≡ xor_word (sub_word (rot_word w)) (xpower (r / 2 - 1) ∷ 0 ∷ 0 ∷ 0 ∷ [])
+multiple_2 r w m =
+    let z : 4 * r % 8 ≡ 0 = omega arith in
+    let i : 4 * r / 8 - 1 ≡ r / 2 - 1 = omega arith in
+    temp_multiple 8 (4 * r) _ w z (ap xpower i)
+
+pub multiple : (own r : ℕ) (w : List ℕ) → IsOwn own → r % own ≡ 0
+    → temp (4 * own) (4 * r) w ≡ xor_word (sub_word (rot_word w)) (xpower (r / own - 1) ∷ 0 ∷ 0 ∷ 0 ∷ [])
+multiple own r w (inl e) m = rw e (multiple_1 r w)
+multiple own r w (inr e) m = rw e (multiple_2 r w (subst (λ (n : ℕ). r % n ≡ 0) e m))
+
+middle_2 : (r : ℕ) (w : List ℕ) → (r % 2 ≡ 0 → ⊥) → temp 8 (4 * r) w ≡ sub_word w
+middle_2 r w m = temp_middle (4 * r) w (omega arith)
+
+pub between : (own r : ℕ) (w : List ℕ) → IsOwn own → (r % own ≡ 0 → ⊥) → temp (4 * own) (4 * r) w ≡ sub_word w
+between own r w (inl e) m = absurd (m (rw e (omega arith)))
+between own r w (inr e) m = rw e (middle_2 r w (subst (λ (n : ℕ). r % n ≡ 0 → ⊥) e m))
 
 neither : (b : Bool) (v w : List ℕ) → cond (b && false) v w ≡ w
 neither true v w = refl
@@ -113,14 +139,10 @@ pub first_4 : (key : List ℕ) → length key ≡ 16 → Made 4 0 key (key ∷ [
 unfolding words key_words
 first_4 key h = record { are = refl; each = cons (joined-whole key h) refl }
 
-pub next_4 : (n c : ℕ) {key k r : List ℕ} {ks : List (List ℕ)} → n % 4 ≡ 0 → xpower (n / 4) ≡ c → r ≡ next_key k (at_multiple k c)
+next_4 : (n : ℕ) {key k r : List ℕ} {ks : List (List ℕ)} → n % 4 ≡ 0 → r ≡ next_key k (temp 4 (4 + n) (word_of k 12))
     → Made 4 n key (k ∷ ks) → Made 4 (suc (suc (suc (suc n)))) key (r ∷ k ∷ ks)
-unfolding at_multiple
-next_4 n c {key} {k} {r} {ks} h x e m =
-    let i : (4 + n) / 4 - 1 ≡ n / 4 = omega arith in
-    let z : (4 + n) % 4 ≡ 0 = omega arith in
-    let t = temp_multiple 4 (4 + n) c _ z (ap xpower i ∙ x) in
-    made k _ (step 4 plain_4 n key k _ _ z m.are t refl (λ a. refl) (λ a b. refl) (λ a b d. refl)) m.each e
+next_4 n {key} {k} {r} {ks} h e m =
+    made k _ (step 4 plain_4 n key k _ _ (omega arith) m.are refl refl (λ a. refl) (λ a b. refl) (λ a b d. refl)) m.each e
 
 -- ---- a key of eight words
 
@@ -135,17 +157,44 @@ first_8 k l hk hl =
       each = cons (joined-whole l hl) (cons (joined-whole k hk) refl);
     }
 
-pub even_8 : (n c : ℕ) {key k l r : List ℕ} {ks : List (List ℕ)} → n % 8 ≡ 0 → xpower (n / 8) ≡ c → r ≡ next_key k (at_multiple l c)
+next_8 : (n : ℕ) {key k l r : List ℕ} {ks : List (List ℕ)} → n % 4 ≡ 0 → r ≡ next_key k (temp 8 (8 + n) (word_of l 12))
     → Made 8 n key (l ∷ k ∷ ks) → Made 8 (suc (suc (suc (suc n)))) key (r ∷ l ∷ k ∷ ks)
-unfolding at_multiple
-even_8 n c {key} {k} {l} {r} {ks} h x e m =
-    let i : (8 + n) / 8 - 1 ≡ n / 8 = omega arith in
-    let t = temp_multiple 8 (8 + n) c _ (omega arith) (ap xpower i ∙ x) in
-    made k _ (step 8 plain_8 n key k _ _ (omega arith) m.are t refl (λ a. refl) (λ a b. refl) (λ a b d. refl)) m.each e
+next_8 n {key} {k} {l} {r} {ks} h e m =
+    made k _ (step 8 plain_8 n key k _ _ (omega arith) m.are refl refl (λ a. refl) (λ a b. refl) (λ a b d. refl)) m.each e
 
-pub odd_8 : (n : ℕ) {key k l r : List ℕ} {ks : List (List ℕ)} → n % 8 ≡ 4 → r ≡ next_key k (at_middle l)
-    → Made 8 n key (l ∷ k ∷ ks) → Made 8 (suc (suc (suc (suc n)))) key (r ∷ l ∷ k ∷ ks)
-unfolding at_middle
-odd_8 n {key} {k} {l} {r} {ks} h e m =
-    let t = temp_middle (8 + n) _ (omega arith) in
-    made k _ (step 8 plain_8 n key k _ _ (omega arith) m.are t refl (λ a. refl) (λ a b. refl) (λ a b d. refl)) m.each e
+-- ---- the array of round keys
+
+-- the first n, the last first
+abbrev pub latest : ℕ → List (List ℕ) → List (List ℕ)
+latest zero keys = []
+latest (suc n) keys = get_or keys n [] ∷ latest n keys
+
+latest-set : (n i : ℕ) (keys : List (List ℕ)) (v : List ℕ) → n ≤ i → latest n (set keys i v) ≡ latest n keys
+latest-set zero i keys v h = refl
+latest-set (suc n) i keys v h = cons (get_or-set_other keys i n v [] (λ e. omega arith)) (latest-set n i keys v (omega arith))
+
+latest-next : (r : ℕ) (keys : List (List ℕ)) (v : List ℕ) → r < length keys → latest (suc r) (set keys r v) ≡ v ∷ latest r keys
+latest-next r keys v h = cons (get_or-set_same keys r v [] h) (latest-set r r keys v (omega arith))
+
+pub turn_4 : (m : ℕ) {key v : List ℕ} (keys : List (List ℕ)) → suc m < length keys
+    → v ≡ next_key (get_or keys m []) (temp 4 (4 * suc m) (word_of (get_or keys m []) 12))
+    → Made 4 (4 * suc m - 4) key (latest (suc m) keys) → Made 4 (4 * (suc m + 1) - 4) key (latest (suc m + 1) (set keys (suc m) v))
+turn_4 m {key} {v} keys h e s =
+    let a : 4 * suc m - 4 ≡ 4 * m = omega arith in
+    let b : 4 * suc m ≡ 4 + 4 * m = omega arith in
+    let d : 4 * (suc m + 1) - 4 ≡ suc (suc (suc (suc (4 * m)))) = omega arith in
+    let i : suc m + 1 ≡ suc (suc m) = omega arith in
+    let now = next_4 (4 * m) (omega arith) (rw b at e) (rw a at s) in
+    rw (d, i, latest-next (suc m) keys v h) now
+
+pub turn_8 : (m : ℕ) {key v : List ℕ} (keys : List (List ℕ)) → suc (suc m) < length keys
+    → v ≡ next_key (get_or keys m []) (temp 8 (4 * suc (suc m)) (word_of (get_or keys (suc m) []) 12))
+    → Made 8 (4 * suc (suc m) - 8) key (latest (suc (suc m)) keys)
+    → Made 8 (4 * (suc (suc m) + 1) - 8) key (latest (suc (suc m) + 1) (set keys (suc (suc m)) v))
+turn_8 m {key} {v} keys h e s =
+    let a : 4 * suc (suc m) - 8 ≡ 4 * m = omega arith in
+    let b : 4 * suc (suc m) ≡ 8 + 4 * m = omega arith in
+    let d : 4 * (suc (suc m) + 1) - 8 ≡ suc (suc (suc (suc (4 * m)))) = omega arith in
+    let i : suc (suc m) + 1 ≡ suc (suc (suc m)) = omega arith in
+    let now = next_8 (4 * m) (omega arith) (rw b at e) (rw a at s) in
+    rw (d, i, latest-next (suc (suc m)) keys v h) now

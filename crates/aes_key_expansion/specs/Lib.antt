@@ -1,1 +1,2 @@
 pub mod NextKey
+pub mod KeySizes

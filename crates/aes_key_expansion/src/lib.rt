@@ -1,33 +1,26 @@
-// The key expansion (FIPS 197, 5.2) of keys of four and of eight words.
+// The key expansion (FIPS 197, 5.2) of keys of four and of eight words, by round keys of four words: a key is its first one or two.
 #![tactic(auto)]
 
-ghost use Rattle.std.specs.Prelude.{◌≡◌, [], ◌++◌};
-ghost use Rattle.rijndael.specs.Field.{sbox};
+ghost use Rattle.std.specs.Prelude.{true, ◌≡◌, [], ◌∷◌, ◌+◌, ◌*◌, ◌-◌, ◌<◌, ◌≤◌, length, take, drop, slice_index_or};
+ghost use Rattle.rijndael.specs.KeyExpansion.{temp, xpower, word_of};
 ghost use Rattle.rijndael.specs.BlockCipher.{expanded_key};
-ghost use Rattle.aes_key_expansion.specs.NextKey.{next_key, at_multiple, at_middle};
-ghost use Rattle.aes_tables.specs.Tables.{SubBytesTable};
+ghost use Rattle.aes_key_expansion.specs.NextKey.{next_key, IsOwn};
+ghost use Rattle.aes_key_expansion.specs.KeySizes.{is_key_length, fifteen};
 ghost use Rattle.aes_words.specs.Words.{Bytes, state_of, bytes_of, byte0, byte1, byte2, byte3};
 
-use aes_words::{Columns, load, low, store, turned, word};
+use aes_tables::{Sbox, SubBytes};
+use aes_words::{Columns, load, store, turned, word};
+use arrays::bytes_at;
 
-fn sub_byte(t: &[u8; 256], x: u8) -> u8
-    requires { SubBytesTable t.now }
-    ensures { result ≡ sbox x }
-{
-    t[x as usize]
-}
+// The first bytes of Rcon: the powers of x.
+const RCON: [u8; 10] = [0x01, 0x02, 0x04, 0x08, 0x10, 0x20, 0x40, 0x80, 0x1b, 0x36];
 
-// SUBWORD.
-fn sub_word(t: &[u8; 256], w: u32) -> u32
-    requires { SubBytesTable t.now }
-    ensures { Bytes result (sbox (byte0 w)) (sbox (byte1 w)) (sbox (byte2 w)) (sbox (byte3 w)) }
+// x to the power j.
+fn power(j: usize) -> u8
+    requires { j < 10 }
+    ensures { result ≡ xpower j }
 {
-    word(
-        sub_byte(t, low(w)),
-        sub_byte(t, low(w >> 8)),
-        sub_byte(t, low(w >> 16)),
-        sub_byte(t, low(w >> 24)),
-    )
+    RCON[j]
 }
 
 // ROTWORD: one place back, which is three places on.
@@ -37,6 +30,18 @@ fn rot_word(w: u32) -> u32
     turned(turned(turned(w)))
 }
 
+// What word 4 r takes in of the word w before it (algorithm 2, lines 8 to 13), where the key has 4 · own words.
+fn taken_in(sbox: &Sbox, w: u32, own: usize, r: usize) -> u32
+    requires { IsOwn own × (own ≤ r) × (r < 4 * own + 7) }
+    ensures { bytes_of result [] ≡ temp (4 * own) (4 * r) (bytes_of w []) }
+{
+    if r % own == 0 {
+        return sbox.sub_word(rot_word(w)) ^ word(power(r / own - 1), 0, 0, 0);
+    }
+    sbox.sub_word(w)
+}
+
+// Each of the four takes in the one before it.
 fn next_columns(k: Columns, v: u32) -> Columns
     ensures { state_of result ≡ next_key (state_of k) (bytes_of v []) }
 {
@@ -51,63 +56,40 @@ fn next_columns(k: Columns, v: u32) -> Columns
     }
 }
 
-// The round key whose first word has a multiple of Nk as its number: k stands Nk words before it, `last` right before it.
-fn next_key(t: &[u8; 256], k: [u8; 16], last: [u8; 16], rcon: u8) -> [u8; 16]
-    requires { SubBytesTable t.now }
-    ensures { result ≡ next_key k (at_multiple last rcon) }
+// Round key r: it goes on from the one that stands Nk words before it, and from the last word.
+fn round_key(sbox: &Sbox, keys: &[[u8; 16]; 15], own: usize, r: usize) -> [u8; 16]
+    requires { IsOwn own × (own ≤ r) × (r < 4 * own + 7) }
+    ensures { result ≡ next_key (slice_index_or keys.now (r - own) []) (temp (4 * own) (4 * r) (word_of (slice_index_or keys.now (r - 1) []) 12)) }
 {
-    let columns = load(last);
-    let v = sub_word(t, rot_word(columns.c3)) ^ word(rcon, 0, 0, 0);
-    store(next_columns(load(k), v))
+    let last = load(keys[r - 1]).c3;
+    let v = taken_in(sbox, last, own, r);
+    store(next_columns(load(keys[r - own]), v))
 }
 
-// With Nk = 8, the one half way to the next multiple.
-fn middle_key(t: &[u8; 256], k: [u8; 16], last: [u8; 16]) -> [u8; 16]
-    requires { SubBytesTable t.now }
-    ensures { result ≡ next_key k (at_middle last) }
+// The round keys that are the key itself.
+fn own_keys(key: &[u8]) -> [[u8; 16]; 15]
+    requires { is_key_length (length key.now) ≡ true }
+    ensures short { length key.now ≡ 16 → result ≡ fifteen (key.now ∷ []) }
+    ensures long { length key.now ≡ 32 → result ≡ fifteen (take 16 key.now ∷ drop 16 key.now ∷ []) }
 {
-    let columns = load(last);
-    let v = sub_word(t, columns.c3);
-    store(next_columns(load(k), v))
+    let mut keys = [[0u8; 16]; 15];
+    keys[0] = bytes_at(key, 0);
+    if key.len() == 32 {
+        keys[1] = bytes_at(key, 16);
+    }
+    keys
 }
 
-// The round keys of a key of 16 bytes.
-pub fn expand_128(key: [u8; 16]) -> [[u8; 16]; 11]
-    ensures { result ≡ expanded_key key }
+// KEYEXPANSION: the round keys, and zeros behind the last.
+pub fn expand(key: &[u8]) -> [[u8; 16]; 15]
+    requires { is_key_length (length key.now) ≡ true }
+    ensures { result ≡ fifteen (expanded_key key.now) }
 {
-    let t = aes_tables::sbox_table();
-    let k1 = next_key(&t, key, key, 0x01);
-    let k2 = next_key(&t, k1, k1, 0x02);
-    let k3 = next_key(&t, k2, k2, 0x04);
-    let k4 = next_key(&t, k3, k3, 0x08);
-    let k5 = next_key(&t, k4, k4, 0x10);
-    let k6 = next_key(&t, k5, k5, 0x20);
-    let k7 = next_key(&t, k6, k6, 0x40);
-    let k8 = next_key(&t, k7, k7, 0x80);
-    let k9 = next_key(&t, k8, k8, 0x1b);
-    let k10 = next_key(&t, k9, k9, 0x36);
-    [key, k1, k2, k3, k4, k5, k6, k7, k8, k9, k10]
-}
-
-// The round keys of a key of 32 bytes, of which these are the two halves.
-pub fn expand_256(k0: [u8; 16], k1: [u8; 16]) -> [[u8; 16]; 15]
-    ensures { result ≡ expanded_key (k0 ++ k1) }
-{
-    let t = aes_tables::sbox_table();
-    let k2 = next_key(&t, k0, k1, 0x01);
-    let k3 = middle_key(&t, k1, k2);
-    let k4 = next_key(&t, k2, k3, 0x02);
-    let k5 = middle_key(&t, k3, k4);
-    let k6 = next_key(&t, k4, k5, 0x04);
-    let k7 = middle_key(&t, k5, k6);
-    let k8 = next_key(&t, k6, k7, 0x08);
-    let k9 = middle_key(&t, k7, k8);
-    let k10 = next_key(&t, k8, k9, 0x10);
-    let k11 = middle_key(&t, k9, k10);
-    let k12 = next_key(&t, k10, k11, 0x20);
-    let k13 = middle_key(&t, k11, k12);
-    let k14 = next_key(&t, k12, k13, 0x40);
-    [
-        k0, k1, k2, k3, k4, k5, k6, k7, k8, k9, k10, k11, k12, k13, k14,
-    ]
+    let sbox = Sbox::new();
+    let own = key.len() / 16;
+    let mut keys = own_keys(key);
+    for r in own..4 * own + 7 {
+        keys[r] = round_key(&sbox, &keys, own, r);
+    }
+    keys
 }

@@ -3,7 +3,10 @@
 
 ghost use Rattle.std.specs.Prelude.{◌≡◌, ◌++◌, ◌+◌, ◌≤◌, length};
 ghost use Rattle.octets.specs.Numbers.{to_big_endian};
+ghost use Rattle.octets.specs.Xor.{xor};
 ghost use Rattle.aes_words.specs.Words.{Bytes, WordAt, state_of, byte0, byte1, byte2, byte3};
+
+use std::ops::BitXor;
 
 #[derive(Clone, Copy)]
 pub struct Columns {
@@ -11,6 +14,22 @@ pub struct Columns {
     pub c1: u32,
     pub c2: u32,
     pub c3: u32,
+}
+
+// Byte by byte.
+impl BitXor for Columns {
+    type Output = Columns;
+
+    fn bitxor(self, k: Columns) -> Columns
+        ensures { state_of result ≡ xor (state_of self) (state_of k) }
+    {
+        Columns {
+            c0: self.c0 ^ k.c0,
+            c1: self.c1 ^ k.c1,
+            c2: self.c2 ^ k.c2,
+            c3: self.c3 ^ k.c3,
+        }
+    }
 }
 
 pub fn low(x: u32) -> u8
@@ -22,14 +41,14 @@ pub fn low(x: u32) -> u8
 pub fn word(a: u8, b: u8, c: u8, d: u8) -> u32
     ensures { Bytes result a b c d }
 {
-    (a as u32) | (b as u32) << 8 | (c as u32) << 16 | (d as u32) << 24
+    u32::from(a) | u32::from(b) << 8 | u32::from(c) << 16 | u32::from(d) << 24
 }
 
 // Each byte one place on, and the last first.
 pub fn turned(x: u32) -> u32
     ensures { Bytes result (byte3 x) (byte0 x) (byte1 x) (byte2 x) }
 {
-    x << 8 | x >> 24
+    x.rotate_left(8)
 }
 
 // The word that begins at byte `at`.
@@ -55,7 +74,7 @@ pub fn load(s: [u8; 16]) -> Columns
 pub fn load_counter(p: [u8; 12], n: u32) -> Columns
     ensures { state_of result ≡ p ++ to_big_endian 4 n }
 {
-    let c = big_endian::u32_bytes(n);
+    let c = big_endian::to_bytes::<4>(u64::from(n));
     Columns {
         c0: word_at(&p, 0),
         c1: word_at(&p, 4),

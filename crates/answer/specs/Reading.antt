@@ -1,13 +1,58 @@
--- The enum of the code, read as the answers of the rules.
+-- The results of the code, read as the answers of the rules.
 -- Assumes nothing.
-use Rattle.std.specs.Prelude.{cond, ℕ, eqb}
+use Rattle.std.specs.Prelude.{Bool, cond, ℕ, eqb, Result, Ok, Err}
 use Rattle.protocol.specs.Answer as rules
-use Rattle.answer.specs.declared.Answer.{Answer}
-use Rattle.answer.specs.declared.Answer.TheVariants.{Done, Refused}
+use Rattle.answer.specs.declared.refusal.Refusal.{Refusal}
+use Rattle.answer.specs.declared.refusal.Refusal.TheVariants.{NotEncrypting, TooShort, TooLong, NotTransform, BadFlags, OtherSession, Constrained}
+use Rattle.answer.specs.declared.refusal.Refusal.TheVariants.{Guest, BadTag, BadSize, InnerTooShort, NotHeader, FirstRelated, InnerSession, NextOutside}
+use Rattle.answer.specs.declared.refusal.Refusal.TheVariants.{NextUnaligned, CounterUsedUp, UnknownDialect, BadKeyMaterial, IdZero, IdTaken, TableFull}
+use Rattle.answer.specs.declared.refusal.Refusal.TheVariants.{FoldLength, NotSigned, BadSignature, DirtyNonce, OtherKeySize, BadLength}
 
-abbrev pub answer_of : Answer → rules.Answer
-answer_of (Done n) = rules.done n
-answer_of (Refused n) = rules.refused n
+-- the number of the line of the table
+abbrev pub number_of : Refusal → ℕ
+number_of NotEncrypting = 1
+number_of TooShort = 2
+number_of TooLong = 3
+number_of NotTransform = 4
+number_of BadFlags = 5
+number_of OtherSession = 6
+number_of Constrained = 7
+number_of Guest = 8
+number_of BadTag = 9
+number_of BadSize = 10
+number_of InnerTooShort = 11
+number_of NotHeader = 12
+number_of FirstRelated = 13
+number_of InnerSession = 14
+number_of NextOutside = 15
+number_of NextUnaligned = 16
+number_of CounterUsedUp = 17
+number_of UnknownDialect = 18
+number_of BadKeyMaterial = 19
+number_of IdZero = 20
+number_of IdTaken = 21
+number_of TableFull = 22
+number_of FoldLength = 23
+number_of NotSigned = 24
+number_of BadSignature = 25
+number_of DirtyNonce = 29
+number_of OtherKeySize = 35
+number_of BadLength = 40
+
+-- a result as the number that a caller gets: 0 where nothing was refused
+abbrev pub number_in : {T : Type 0} → Result T Refusal → ℕ
+number_in (Ok x) = 0
+number_in (Err why) = number_of why
+
+-- a result: done with what it carries, or refused with its number
+abbrev pub answer_of : Result ℕ Refusal → rules.Answer
+answer_of (Ok n) = rules.done n
+answer_of (Err why) = rules.refused (number_of why)
+
+-- the same of a fold, whose done answer says whether the message was folded in
+abbrev pub fold_answer_of : Result Bool Refusal → rules.Answer
+fold_answer_of (Ok b) = rules.done (cond b 1 0)
+fold_answer_of (Err why) = rules.refused (number_of why)
 
 -- what the place for a mark holds afterwards, where it held h: whether what a done answer carries is not 0, as 1 or 0
 abbrev pub marked : rules.Answer → ℕ → ℕ

@@ -1,43 +1,24 @@
 // What the calls answer with (RULES 2).
 #![tactic(auto)]
 
+mod refusal;
+
 ghost use Rattle.std.specs.Prelude.{◌≡◌, cond};
-ghost use Rattle.protocol.specs.Answer.{answer_number, is_refused, carried};
-ghost use Rattle.answer.specs.Reading.{answer_of, marked};
+ghost use Rattle.protocol.specs.Answer.{answer_number, carried};
+ghost use Rattle.answer.specs.Reading.{number_in, answer_of, fold_answer_of, marked};
 
-// Done, with the number of inner headers visited or with what else the call has to say; or refused, with the number of RULES 2.
-#[derive(Clone, Copy)]
-pub enum Answer {
-    Done(u64),
-    Refused(u32),
-}
+pub use refusal::Refusal;
 
-pub fn refused(a: Answer) -> bool
-    ensures { result ≡ is_refused (answer_of a) }
-{
-    match a {
-        Answer::Done(_) => false,
-        Answer::Refused(_) => true,
-    }
-}
+// Done, with the number of inner headers visited; or refused, by a line of the table of RULES 2.
+pub type Answer = Result<u64, Refusal>;
 
 // The number that a caller gets.
-pub fn number(a: Answer) -> u32
-    ensures { result ≡ answer_number (answer_of a) }
+pub fn number<T: Drop>(answer: Result<T, Refusal>) -> u32
+    ensures { result ≡ number_in answer }
 {
-    match a {
-        Answer::Done(_) => 0,
-        Answer::Refused(n) => n,
-    }
-}
-
-// What the caller's place for that which a done answer carries holds afterwards.
-pub fn carried_to(a: Answer, lent: u64) -> u64
-    ensures { result ≡ carried (answer_of a) lent }
-{
-    match a {
-        Answer::Done(n) => n,
-        Answer::Refused(_) => lent,
+    match answer {
+        Ok(_) => 0,
+        Err(why) => u32::from(why),
     }
 }
 
@@ -45,23 +26,23 @@ pub fn carried_to(a: Answer, lent: u64) -> u64
 pub fn report(a: Answer, place: &mut u64) -> u32
     ensures { (result ≡ answer_number (answer_of a)) × (place.new ≡ carried (answer_of a) place.old) }
 {
-    *place = carried_to(a, *place);
+    *place = a.unwrap_or(*place);
     number(a)
 }
 
-// What the caller's place for a mark holds afterwards: 1 where a done answer carries anything but 0.
-pub fn mark_to(a: Answer, mark: u32) -> u32
-    ensures { result ≡ marked (answer_of a) mark }
+// What the caller's place for a mark holds after a fold: where it is done, 1 if the message was folded in, and 0 if not.
+pub fn mark_to(folded: Result<bool, Refusal>, mark: u32) -> u32
+    ensures { result ≡ marked (fold_answer_of folded) mark }
 {
-    match a {
-        Answer::Done(n) => if n == 0 { 0 } else { 1 },
-        Answer::Refused(_) => mark,
+    match folded {
+        Ok(folded_in) => u32::from(folded_in),
+        Err(_) => mark,
     }
 }
 
-// A line of the table of numbers: n where it applies, else what the later lines say.
-pub fn refuse(n: u32, when: bool, later: u32) -> u32
-    ensures { result ≡ cond when n later }
+// A line of the table of numbers: where it applies, the call is refused by it, and a `?` leaves the later lines untested.
+pub fn refuse(when: bool, why: Refusal) -> Result<(), Refusal>
+    ensures { result ≡ cond when (Err why) (Ok tt) }
 {
-    if when { n } else { later }
+    if when { Err(why) } else { Ok(()) }
 }

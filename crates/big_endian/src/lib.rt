@@ -1,30 +1,25 @@
-// Numbers in bytes, the highest byte first.
+// Numbers as bytes and in bytes, the highest byte first.
 #![tactic(auto)]
 
-ghost use Rattle.std.specs.Prelude.{◌≡◌, ◌+◌, ◌≤◌, ◌<◌, length};
-ghost use Rattle.octets.specs.Numbers.{big_endian, bytes_at};
+ghost use Rattle.std.specs.Prelude.{◌≡◌, ◌+◌, ◌^◌, ◌≤◌, ◌<◌, length};
+ghost use Rattle.octets.specs.Numbers.{big_endian, to_big_endian, bytes_at};
 
-// Numbers as bytes.
-pub use big_endian_bytes::{u32_bytes, u64_bytes};
-
-fn wide(x: u8) -> u32
-    ensures { (result ≡ x) × (result < 256) }
+// x as N bytes; what is above them is dropped.
+pub fn to_bytes<const N: usize>(x: u64) -> [u8; N]
+    requires { N ≤ 8 }
+    ensures { result ≡ to_big_endian N x }
 {
-    x as u32
+    arrays::bytes_at(&x.to_be_bytes(), 8 - N)
 }
 
-// The number in the four bytes from `at` on.
-pub fn u32_at(b: &[u8], at: usize) -> u32
-    requires { at + 4 ≤ length b.now }
-    ensures { result ≡ big_endian (bytes_at at 4 b.now) }
+// The number in the N bytes from `at` on.
+pub fn number_at<const N: usize>(b: &[u8], at: usize) -> u64
+    requires within { at + N ≤ length b.now }
+    requires fits { N ≤ 8 }
+    ensures value { result ≡ big_endian (bytes_at at N b.now) }
+    ensures bound { result < 256 ^ N }
 {
-    ((wide(b[at]) * 256 + wide(b[at + 1])) * 256 + wide(b[at + 2])) * 256 + wide(b[at + 3])
-}
-
-// The number in the eight bytes from `at` on.
-pub fn u64_at(b: &[u8], at: usize) -> u64
-    requires { at + 8 ≤ length b.now }
-    ensures { result ≡ big_endian (bytes_at at 8 b.now) }
-{
-    (u32_at(b, at) as u64) * 4294967296 + (u32_at(b, at + 4) as u64)
+    let mut word = [0u8; 8];
+    runs::copy(&mut word, 8 - N, &b[at..at + N]);
+    u64::from_be_bytes(word)
 }

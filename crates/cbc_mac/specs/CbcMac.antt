@@ -1,5 +1,4 @@
 -- SP 800-38C, 6.1, steps 2 and 3: the cipher block chaining message authentication code, over any block cipher E with blocks of 16 bytes.
--- Assumes nothing.
 use Rattle.std.specs.Prelude.{List, ℕ}
 use Rattle.octets.specs.Blocks.{over_blocks}
 use Rattle.octets.specs.Xor.{xor}

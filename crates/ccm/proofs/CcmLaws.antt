@@ -1,5 +1,4 @@
 -- Laws of CCM that the layer above cites: lengths, and that decryption gives back what was encrypted.
--- Assumes nothing.
 use mathlib.Core.List.{List}
 use mathlib.Core.Option.{some}
 use mathlib.Core.Path.{◌≡◌, refl, sym, ap, ◌∙◌}

@@ -1,3 +1,3 @@
 pub mod CcmLaws
-pub mod Tag
+pub mod TagParts
 pub mod Opening

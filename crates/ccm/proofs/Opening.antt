@@ -1,11 +1,10 @@
 -- The two ways out of opening: the tag is right, or the key stream is applied again.
--- Assumes nothing.
 use mathlib.Core.Bool.{Bool, true, false}
 use mathlib.Core.List.{List}
 use mathlib.Core.Path.{◌≡◌, sym, ap, ◌∙◌}
 use Prim.Native.Nat.{ℕ}
 use Rattle.octets.specs.Same.{same_bytes}
-use Rattle.ccm.specs.Clauses.{Sealed, Opened}
+use Rattle.ccm.specs.Clauses.{Opened}
 use Rattle.ccm.specs.Ccm.{encrypt, tag}
 use Rattle.ccm.specs.General as general
 use Rattle.ccm.proofs.CcmLaws.{encrypt_twice}
@@ -24,11 +23,3 @@ module _ (E : List ℕ → List ℕ) (nonce aad received body mid u : List ℕ) 
   opened_wrong last s el =
       let q : same_bytes received (tag E nonce aad (encrypt E nonce body)) ≡ false = rw (← em, ← eu) (sym er ∙ s) in
       record { right = rw q s; bytes = rw q (el ∙ ap (encrypt E nonce) em ∙ encrypt_twice E 4 nonce body) }
-
--- the same cipher by another name
-pub sealed_under : {E F : List ℕ → List ℕ} {nonce aad text text' t : List ℕ} → E ≡ F → Sealed E nonce aad text text' t → Sealed F nonce aad text text' t
-sealed_under e s = rw e at s
-
-pub opened_under : {E F : List ℕ → List ℕ} {nonce aad t body body' : List ℕ} {r : Bool} → E ≡ F → Opened E nonce aad t body body' r
-    → Opened F nonce aad t body body' r
-opened_under e s = rw e at s

@@ -1,5 +1,4 @@
 -- CCM with a nonce of 11 bytes and a tag of 16: q is 4 and t is 16. What the layer above cites.
--- Assumes nothing.
 use Rattle.std.specs.Prelude.{List, ℕ}
 use Rattle.std.proofs.Math.Option.{Option}
 use Rattle.ccm.specs.General as general

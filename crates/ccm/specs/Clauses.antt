@@ -1,5 +1,4 @@
 -- Helper definitions of the contracts: what sealing and opening in place do.
--- Assumes nothing.
 use Rattle.std.specs.Prelude.{Bool, List, ◌≡◌, ℕ, ◌-◌, ◌^◌}
 use Rattle.std.proofs.Math.Option.{get_or}
 use Rattle.octets.specs.Maybe.{is_some}

@@ -1,5 +1,4 @@
 -- SP 800-38C, 6: CCM over any block cipher E with blocks of 16 bytes, with q octets for the payload's length and t octets of tag.
--- Assumes nothing.
 use Rattle.std.specs.Prelude.{cond, List, ℕ, ◌+◌, length, replicate, take}
 use Rattle.std.proofs.Math.Option.{Option, none, some}
 use Rattle.octets.specs.Blocks.{block_count}

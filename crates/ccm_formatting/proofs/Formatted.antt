@@ -1,5 +1,4 @@
 -- The formatted input of SP 800-38C, appendix A.2, where the nonce has 11 bytes, the associated data 32 and the tag 16.
--- Assumes nothing.
 use mathlib.Core.List.{List, [], ◌∷◌, ◌++◌}
 use mathlib.Core.Path.{◌≡◌, refl, sym, ap, ap₂, ◌∙◌}
 use Prim.Native.Nat.{ℕ, ◌+◌, ◌*◌}

@@ -1,6 +1,5 @@
 -- SP 800-38C, appendix A: the formatting of the input data and the counter blocks, where the payload's length takes q octets
 -- (so that a nonce has 15 - q octets) and the tag t octets.
--- Assumes nothing.
 use Rattle.std.specs.Prelude.{cond, List, [], ◌∷◌, ◌++◌, ℕ, ◌+◌, ◌-◌, ◌*◌, ◌/◌, ltb, length}
 use Rattle.octets.specs.Blocks.{padded}
 use Rattle.octets.specs.Numbers.{to_big_endian}

@@ -1,5 +1,4 @@
 -- What the code does to a state is `updated` and `finished`; and from a state that holds m they make one that holds the joined bytes, and the code.
--- Assumes nothing.
 use mathlib.Core.Path.{◌≡◌, refl, sym, ap, ap₂, subst, ◌∙◌}
 use mathlib.Core.Bool.{Bool, true, false, cond}
 use mathlib.Core.List.{List, ◌++◌}

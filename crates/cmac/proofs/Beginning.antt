@@ -1,5 +1,4 @@
 -- A state in which nothing was taken in holds no byte, under every cipher.
--- Assumes nothing.
 use mathlib.Core.Path.{◌≡◌, refl, sym, subst}
 use mathlib.Core.List.{List, []}
 use Prim.Native.Nat.{ℕ}

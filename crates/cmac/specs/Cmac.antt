@@ -1,5 +1,4 @@
 -- SP 800-38B, 6, and RFC 4493: CMAC over any block cipher E with blocks of 16 bytes, with the whole last block as the code.
--- Assumes nothing.
 use Rattle.std.specs.Prelude.{cond, List, [], ◌∷◌, ◌++◌, ℕ, ◌+◌, ◌-◌, ◌*◌, ◌/◌, eqb, ltb, length, get_or, take, drop, replicate}
 use Rattle.octets.specs.Numbers.{big_endian, to_big_endian}
 use Rattle.octets.specs.Blocks.{zero_padded}

@@ -1,6 +1,5 @@
 -- What the contracts of the code need and SP 800-38B does not have: a code under way. What a piece and the end make of any state, by its own
 -- fields, and which states hold a message.
--- Assumes nothing.
 use Rattle.std.specs.Prelude.{◌≡◌, cond, List, ℕ, ◌+◌, ◌-◌, ◌*◌, min, leb, length, take, drop, replicate}
 use Rattle.std.proofs.Math.Seq.{paste}
 use Rattle.cbc_mac.specs.CbcMac.{cbc_mac}

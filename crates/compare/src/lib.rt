@@ -9,10 +9,8 @@ pub fn same_16(a: [u8; 16], b: [u8; 16]) -> bool
     ensures { result ≡ same_bytes a b }
 {
     let mut d: u8 = 0;
-    let mut i: usize = 0;
-    while i < 16 {
-        d = d | (a[i] ^ b[i]);
-        i += 1;
+    for i in 0..16 {
+        d |= a[i] ^ b[i];
     }
     d == 0
 }

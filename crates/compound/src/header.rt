@@ -1,47 +1,58 @@
-// Fields of the inner header at place p (MS-SMB2 2.2.1.2), which is wholly inside.
+// The fields of an inner header (MS-SMB2 2.2.1.2).
 ghost use Rattle.std.specs.Prelude.{◌≡◌, ◌+◌, ◌≤◌, length};
-ghost use Rattle.protocol.specs.InnerHeader.{is_related, next_command, inner_session_id, is_break_notice, belongs as belongsTo};
+ghost use Rattle.protocol.specs.InnerHeader.{is_inner_header, is_related, next_command, inner_session_id, is_break_notice, belongs};
 ghost use Rattle.compound.specs.Reading.{envelope_of};
 
 use crate::Envelope;
-use little_endian::{u16_at, u32_at, u64_at};
+use little_endian::number_at;
+use protocol_id::begins;
 
-pub fn is_related(m: &[u8], p: usize) -> bool
-    requires { p + 64 ≤ length m.now }
-    ensures { result ≡ is_related m.now p }
-{
-    u32_at(m, p + 16) / 4 % 2 == 1
+// The header at a place of a message, which is wholly inside.
+#[derive(Clone, Copy)]
+pub struct InnerHeader<'a> {
+    pub message: &'a [u8],
+    pub at: usize,
+    ghost inside: { at + 64 ≤ length message.now },
 }
 
-pub fn next_command(m: &[u8], p: usize) -> usize
-    requires { p + 64 ≤ length m.now }
-    ensures { result ≡ next_command m.now p }
-{
-    u32_at(m, p + 20) as usize
-}
+impl InnerHeader<'_> {
+    pub fn begins(self) -> bool
+        ensures { result ≡ is_inner_header self.entry.message.now self.entry.at }
+    {
+        begins(self.message, self.at, 0xFE)
+    }
 
-// A break notice (RULES 9.9): Command, MessageId and SessionId as MS-SMB2 2.2.23 has them.
-fn is_break_notice(m: &[u8], p: usize) -> bool
-    requires { p + 64 ≤ length m.now }
-    ensures { result ≡ is_break_notice m.now p }
-{
-    let command = u16_at(m, p + 12);
-    let message_id = u64_at(m, p + 24);
-    (command == 0x0012) & (message_id == 0xFFFFFFFFFFFFFFFF) & (session_id(m, p) == 0)
-}
+    pub fn is_related(self) -> bool
+        ensures { result ≡ is_related self.entry.message.now self.entry.at }
+    {
+        number_at::<4>(self.message, self.at + 16) / 4 % 2 == 1
+    }
 
-// Number 14 is not given: the header has the session's id, or is a break notice from the server.
-pub fn belongs(m: &[u8], p: usize, e: Envelope) -> bool
-    requires { p + 64 ≤ length m.now }
-    ensures { result ≡ belongsTo m.now (envelope_of e) p }
-{
-    let notice = is_break_notice(m, p);
-    (e.from_server & notice) | (session_id(m, p) == e.id)
-}
+    pub fn next_command(self) -> usize
+        ensures { result ≡ next_command self.entry.message.now self.entry.at }
+    {
+        number_at::<4>(self.message, self.at + 20) as usize
+    }
 
-fn session_id(m: &[u8], p: usize) -> u64
-    requires { p + 64 ≤ length m.now }
-    ensures { result ≡ inner_session_id m.now p }
-{
-    u64_at(m, p + 40)
+    fn session_id(self) -> u64
+        ensures { result ≡ inner_session_id self.entry.message.now self.entry.at }
+    {
+        number_at::<8>(self.message, self.at + 40)
+    }
+
+    // A break notice (RULES 9.9): Command, MessageId and SessionId as MS-SMB2 2.2.23 has them.
+    fn is_break_notice(self) -> bool
+        ensures { result ≡ is_break_notice self.entry.message.now self.entry.at }
+    {
+        let command = number_at::<2>(self.message, self.at + 12);
+        let message_id = number_at::<8>(self.message, self.at + 24);
+        (command == 0x0012) & (message_id == 0xFFFFFFFFFFFFFFFF) & (self.session_id() == 0)
+    }
+
+    // Number 14 is not given: the header has the session's id, or is a break notice from the server.
+    pub fn belongs(self, e: Envelope) -> bool
+        ensures { result ≡ belongs self.entry.message.now (envelope_of e) self.entry.at }
+    {
+        (e.from_server & self.is_break_notice()) | (self.session_id() == e.id)
+    }
 }

@@ -10,8 +10,6 @@ ghost use Rattle.answer.specs.Reading.{answer_of};
 ghost use Rattle.compound.specs.Reading.{envelope_of};
 
 use answer::Answer;
-use header::next_command;
-use rules::{first_number, next_number};
 
 // What is known of an inner message from outside: the id of the session that it is sealed for, and whether it comes from the server.
 #[derive(Clone, Copy)]
@@ -24,21 +22,11 @@ pub struct Envelope {
 pub fn walk_headers(message: &[u8], e: Envelope) -> Answer
     ensures { answer_of result ≡ walk message.now (envelope_of e) }
 {
-    // the header d bytes after the one at p was judged, after n that passed
-    let mut number = first_number(message, e);
-    let mut p: usize = 0;
-    let mut d: usize = 0;
-    let mut n: u64 = 0;
-    loop {
-        if number != 0 {
-            break Answer::Refused(number);
-        }
-        p += d;
-        n += 1;
-        d = next_command(message, p);
-        if d == 0 {
-            break Answer::Done(n);
-        }
-        number = next_number(message, e, p, d);
+    let mut header = rules::first(message, e)?;
+    let mut visited = 1;
+    while let Some(next) = rules::next(header, e)? {
+        header = next;
+        visited += 1;
     }
+    Ok(visited)
 }

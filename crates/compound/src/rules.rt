@@ -1,50 +1,51 @@
-// The rules that the walk tests at a header, as the number of the first one that is broken, or 0.
-ghost use Rattle.std.specs.Prelude.{◌≡◌, ◌+◌, ◌≤◌, length};
-ghost use Rattle.protocol.specs.Answer.{first_of};
-ghost use Rattle.protocol.specs.Compound.{first_header_tests, next_header_tests};
+// The rules that the walk tests at a header. The header that passes is judged from then on.
+ghost use Rattle.std.specs.Prelude.{◌≡◌, ◌+◌};
+ghost use Rattle.compound.specs.Walking.{First, Ahead, Next};
 ghost use Rattle.compound.specs.Reading.{envelope_of};
 
 use crate::Envelope;
-use crate::header::{belongs, is_related};
-use protocol_id::begins;
+use crate::header::InnerHeader;
+use answer::{Refusal, refuse};
 
-// At the first header.
-pub fn first_number(m: &[u8], e: Envelope) -> u32
-    ensures { result ≡ first_of (first_header_tests m.now (envelope_of e)) }
+// The first header: 11, 12, 13, 14.
+pub fn first(message: &[u8], e: Envelope) -> Result<InnerHeader, Refusal>
+    ensures { First message.now (envelope_of e) result }
 {
-    if m.len() < 64 {
-        return 11;
+    if message.len() < 64 {
+        return Err(Refusal::InnerTooShort);
     }
-    if !begins(m, 0, 0xFE) {
-        return 12;
-    }
-    if is_related(m, 0) {
-        return 13;
-    }
-    if !belongs(m, 0, e) {
-        return 14;
-    }
-    0
+    let header = InnerHeader { message, at: 0 };
+    refuse(!header.begins(), Refusal::NotHeader)?;
+    refuse(header.is_related(), Refusal::FirstRelated)?;
+    refuse(!header.belongs(e), Refusal::InnerSession)?;
+    Ok(header)
 }
 
-// At the header d bytes after the one at p.
-pub fn next_number(m: &[u8], e: Envelope, p: usize, d: usize) -> u32
-    requires { p + 64 ≤ length m.now }
-    ensures { result ≡ first_of (next_header_tests m.now (envelope_of e) p d) }
+// The header so many bytes after this one: 15, 16, 12, 14.
+fn ahead(header: InnerHeader, d: usize, e: Envelope) -> Result<InnerHeader, Refusal>
+    ensures { Ahead header.entry.message.now (envelope_of e) header.entry.at d result }
 {
-    // p + 64 is at most the length, so this difference does not wrap, where the sum p + d + 64 could
-    if (d < 64) | (m.len() - p - 64 < d) {
-        return 15;
+    // the header ends inside, so this difference does not wrap, where the sum of the places could
+    let left = header.message.len() - header.at - 64;
+    if (d < 64) | (left < d) {
+        return Err(Refusal::NextOutside);
     }
-    if d % 8 != 0 {
-        return 16;
+    refuse(d % 8 != 0, Refusal::NextUnaligned)?;
+    let next = InnerHeader {
+        message: header.message,
+        at: header.at + d,
+    };
+    refuse(!next.begins(), Refusal::NotHeader)?;
+    refuse(!next.is_related() & !next.belongs(e), Refusal::InnerSession)?;
+    Ok(next)
+}
+
+// The header after this one, if there is one.
+pub fn next(header: InnerHeader, e: Envelope) -> Result<Option<InnerHeader>, Refusal>
+    ensures { Next header.entry.message.now (envelope_of e) header.entry.at result }
+{
+    match header.next_command() {
+        0 => Ok(None),
+        d => Ok(Some(ahead(header, d, e)?)),
     }
-    let q = p + d;
-    if !begins(m, q, 0xFE) {
-        return 12;
-    }
-    if !is_related(m, q) & !belongs(m, q, e) {
-        return 14;
-    }
-    0
 }

@@ -3,6 +3,8 @@
 use Rattle.std.specs.Prelude.{Bool, false, cond, not, ◌&&◌, ℕ, eqb, leb}
 use Rattle.protocol.specs.Connection as rules
 use Rattle.connection.specs.declared.Connection.{Connection}
+use Rattle.connection.specs.declared.role.Role.{Role}
+use Rattle.connection.specs.declared.role.Role.TheVariants.{Client, Server}
 
 -- a byte as a flag: 0 for no, anything else for yes
 abbrev pub flag : ℕ → Bool
@@ -11,6 +13,11 @@ flag x = not (eqb x 0)
 -- and a flag as the library stores it
 abbrev pub bit_of : Bool → ℕ
 bit_of b = cond b 1 0
+
+-- the enum of the code
+abbrev pub role_in : Role → rules.Role
+role_in Client = rules.client
+role_in Server = rules.server
 
 -- 0 for a client, 1 for a server
 abbrev pub role_of : ℕ → rules.Role

@@ -2,18 +2,19 @@
 // ciphers here too.
 #![tactic(auto)]
 
+mod role;
+
 ghost use Rattle.std.specs.Prelude.{◌≡◌};
 ghost use Rattle.protocol.specs.Connection.{encrypts, cipher_used, uses_gcm, uses_wide};
-ghost use Rattle.connection.specs.Reading.{bit_of, connection_of, under_key};
+ghost use Rattle.dialects.specs.Reading.{wide_in};
+ghost use Rattle.connection.specs.Reading.{role_in, connection_of, under_key};
 
-pub use dialects::{cipher_key_bytes, is_gcm, is_wide, known_dialect, place_bytes};
+pub use dialects::{KeySize, SMB_311, is_gcm, known_dialect};
 pub use limits::{fits, last_counter, longest_material, longest_message};
+pub use role::{CLIENT, Role, SERVER};
 
-pub const CLIENT: u8 = 0;
-
-pub const SERVER: u8 = 1;
-
-// struct smb3seal_connection: any bytes are a connection. A role above 1 or a spare byte other than 0 means that nothing was agreed.
+// struct smb3seal_connection: any bytes are a connection, so that its fields stay numbers. A role above 1 or a spare byte other than 0 means that
+// nothing was agreed.
 #[repr(C)]
 #[derive(Clone, Copy)]
 pub struct Connection {
@@ -25,52 +26,57 @@ pub struct Connection {
     pub spare: u8,
 }
 
-// Number 1 is not given.
-pub fn encrypting(c: Connection) -> bool
-    ensures { result ≡ encrypts (connection_of c) }
-{
-    let named = !(c.dialect == 0x0311) | (c.cipher <= 4);
-    let agreed = (c.encryption != 0) & (c.role <= 1) & (c.spare == 0);
-    known_dialect(c.dialect) & agreed & !(c.cipher == 0) & named
-}
+impl Connection {
+    // A connection by the numbers that a call under one given key takes.
+    pub fn under_key(role: u32, dialect: u16, encryption: u32, cipher: u16) -> Connection
+        ensures { connection_of result ≡ under_key role dialect encryption cipher }
+    {
+        Connection {
+            dialect,
+            cipher,
+            role: u8::from(role != 0),
+            encryption: u8::from((encryption != 0) & (role <= 1)),
+            constrained: 0,
+            spare: 0,
+        }
+    }
 
-// Below 3.1.1 always CCM.
-pub fn cipher_used(c: Connection) -> u16
-    ensures { result ≡ cipher_used (connection_of c) }
-{
-    if c.dialect == 0x0311 { c.cipher } else { 1 }
-}
+    pub fn role(self) -> Role
+        ensures { role_in result ≡ (connection_of self).role }
+    {
+        Role::from(self.role)
+    }
 
-// Number 29 may be given.
-pub fn uses_gcm(c: Connection) -> bool
-    ensures { result ≡ uses_gcm (connection_of c) }
-{
-    is_gcm(cipher_used(c))
-}
+    // Number 1 is not given.
+    pub fn encrypting(self) -> bool
+        ensures { result ≡ encrypts (connection_of self) }
+    {
+        let named = !(self.dialect == SMB_311) | (self.cipher <= 4);
+        let agreed = (self.encryption != 0) & (self.role <= 1) & (self.spare == 0);
+        known_dialect(self.dialect) & agreed & !(self.cipher == 0) & named
+    }
 
-pub fn uses_wide(c: Connection) -> bool
-    ensures { result ≡ uses_wide (connection_of c) }
-{
-    is_wide(c.dialect, c.cipher)
-}
+    // Below 3.1.1 always CCM.
+    pub fn cipher_used(self) -> u16
+        ensures { result ≡ cipher_used (connection_of self) }
+    {
+        if self.dialect == SMB_311 {
+            self.cipher
+        } else {
+            1
+        }
+    }
 
-// A flag as the library stores it.
-pub fn bit(on: bool) -> u8
-    ensures { result ≡ bit_of on }
-{
-    if on { 1 } else { 0 }
-}
+    // Number 29 may be given.
+    pub fn uses_gcm(self) -> bool
+        ensures { result ≡ uses_gcm (connection_of self) }
+    {
+        is_gcm(self.cipher_used())
+    }
 
-// A connection by the numbers that a call under one given key takes.
-pub fn under_key(role: u32, dialect: u16, encryption: u32, cipher: u16) -> Connection
-    ensures { connection_of result ≡ under_key role dialect encryption cipher }
-{
-    Connection {
-        dialect: dialect,
-        cipher: cipher,
-        role: bit(role != 0),
-        encryption: bit((encryption != 0) & (role <= 1)),
-        constrained: 0,
-        spare: 0,
+    pub fn key_size(self) -> KeySize
+        ensures { wide_in result ≡ uses_wide (connection_of self) }
+    {
+        KeySize::of(self.dialect, self.cipher)
     }
 }

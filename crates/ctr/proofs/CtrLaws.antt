@@ -1,17 +1,28 @@
 -- Laws of counter mode: it keeps the length, undoes itself, and goes on block by block.
--- Assumes nothing.
-use mathlib.Core.Path.{◌≡◌, sym, ap, ap₂, ◌∙◌}
-use mathlib.Core.List.{List, ◌++◌}
-use Prim.Native.Nat.{ℕ, ◌+◌, ◌-◌, ◌*◌, ◌/◌, ◌%◌, ◌<◌, ◌≤◌}
+use mathlib.Core.Path.{◌≡◌, refl, sym, ap, ap₂, ◌∙◌}
+use mathlib.Core.List.{List, [], ◌∷◌, ◌++◌, append_assoc}
+use Prim.Native.Nat.{ℕ, zero, suc, ◌+◌, ◌*◌, ◌/◌, ◌%◌, ◌<◌, ◌≤◌}
 use native.Mathlib.Nat.{zero-add}
 use native.Mathlib.Omega.{arith}
 use lib.ListN.{length, get_or, take, drop}
-use lib.Seq.{paste, drop-paste}
-use Rattle.octets.specs.Numbers.{to_big_endian}
+use lib.Bits.{bit_xor}
+use lib.Seq.{paste, drop-paste, drop-drop}
+use borrow.Rule.Slice.PartMut.{put_mid}
 use Rattle.octets.specs.Xor.{xor_with, xor}
 use Rattle.octets.proofs.XorWith.{length-xor_with, xor_with_twice, drop-xor_with, take-xor_with}
 use Rattle.octets.proofs.Paste.{paste_more, paste_all}
-use Rattle.ctr.specs.Ctr.{ctr, counter_blocks}
+use Rattle.ctr.specs.Ctr.{ctr}
+
+xor_with-take : (f : ℕ → ℕ) (i m : ℕ) (xs : List ℕ) → xor_with f i (take m xs) ≡ take m (xor_with f i xs)
+unfolding xor_with
+xor_with-take f i zero xs = refl
+xor_with-take f i (suc m) [] = refl
+xor_with-take f i (suc m) (x ∷ xs) = ap (λ (r : List ℕ). bit_xor x (f i) ∷ r) (xor_with-take f (suc i) m xs)
+
+-- m bytes in the place of those from i on
+placed : (buf : List ℕ) (i m : ℕ) (s : List ℕ) → put_mid i m buf (take m s) ≡ paste buf i s m
+placed buf i m s =
+    ap (λ (x : List ℕ). take i buf ++ (take m s ++ x)) (drop-drop m i buf) ∙ sym (append_assoc (take i buf) (take m s) (drop (i + m) buf))
 
 module _ (E : List ℕ → List ℕ) (T : ℕ → List ℕ) where
   pub length-ctr : (text : List ℕ) → length (ctr E T text) ≡ length text
@@ -22,14 +33,15 @@ module _ (E : List ℕ → List ℕ) (T : ℕ → List ℕ) where
   unfolding ctr
   ctr_twice text = xor_with_twice (λ i. get_or (E (T (i / 16))) (i % 16) 0) 0 text
 
-  -- a turn of the loop: output block j goes onto the m bytes from i = 16 j
-  ctr_turn : (d : List ℕ) (i j m : ℕ) (ks buf out : List ℕ) → i ≤ length d → i ≡ 16 * j → m ≤ 16
+  -- a turn of the loop: output block j goes onto the m bytes from 16 j on
+  pub ctr_turn : (d : List ℕ) (j m : ℕ) (ks buf out : List ℕ) → 16 * j ≤ length d → m ≤ 16
       → ks ≡ E (T j)
-      → buf ≡ paste d 0 (ctr E T d) i
-      → out ≡ paste buf i (xor (drop i buf) ks) m
-      → out ≡ paste d 0 (ctr E T d) (i + m)
+      → buf ≡ paste d 0 (ctr E T d) (16 * j)
+      → out ≡ put_mid (16 * j) m buf (xor (take m (drop (16 * j) buf)) ks)
+      → out ≡ paste d 0 (ctr E T d) (16 * j + m)
   unfolding ctr
-  ctr_turn d i j m ks buf out hi ei hm ek eb eo =
+  ctr_turn d j m ks buf out hi hm ek eb eo =
+      let i : ℕ = 16 * j in
       let K : ℕ → ℕ = λ k. get_or (E (T (k / 16))) (k % 16) 0 in
       let f : ℕ → ℕ = λ k. get_or ks k 0 in
       let s : List ℕ = xor_with K 0 d in
@@ -46,7 +58,7 @@ module _ (E : List ℕ → List ℕ) (T : ℕ → List ℕ) where
       ∙ take-xor_with f K 0 i (drop i d) m same
       ∙ ap (λ (k : ℕ). take m (xor_with K k (drop i d))) (sym z)
       ∙ ap (take m) (sym (drop-xor_with K 0 d i)) in
-      eo
+      eo ∙ ap (put_mid i m buf) (xor_with-take f 0 m (drop i buf)) ∙ placed buf i m (xor_with f 0 (drop i buf))
       ∙ ap₂ (λ (x : List ℕ) (k : ℕ). paste x k (xor_with f 0 (drop i buf)) m) eb (sym z)
       ∙ paste_more d 0 s (xor_with f 0 (drop i buf)) i m (omega arith) (omega arith) next
 
@@ -55,14 +67,3 @@ module _ (E : List ℕ → List ℕ) (T : ℕ → List ℕ) where
   ctr-end d i buf hi eb =
       let l = length-ctr d in
       eb ∙ ap (paste d 0 (ctr E T d)) (hi ∙ sym l) ∙ paste_all d 0 (ctr E T d) (omega arith)
-
--- the same turn, where the counter block is that of number n
-pub counter_turn : (E : List ℕ → List ℕ) (prefix : List ℕ) (first n : ℕ) (d : List ℕ) (i m : ℕ) (ks buf out : List ℕ) → first ≤ n
-    → i ≤ length d → i ≡ 16 * (n - first) → m ≤ 16
-    → ks ≡ E (prefix ++ to_big_endian 4 n)
-    → buf ≡ paste d 0 (ctr E (counter_blocks prefix first) d) i
-    → out ≡ paste buf i (xor (drop i buf) ks) m
-    → out ≡ paste d 0 (ctr E (counter_blocks prefix first) d) (i + m)
-counter_turn E prefix first n d i m ks buf out hn hi ei hm ek =
-    let e : n ≡ first + (n - first) = omega arith in
-    ctr_turn E (counter_blocks prefix first) d i (n - first) m ks buf out hi ei hm (ek ∙ ap (λ (k : ℕ). E (prefix ++ to_big_endian 4 k)) e)

@@ -1,5 +1,4 @@
 -- SP 800-38A, 6.5: the Counter mode, over any block cipher E with blocks of 16 bytes.
--- Assumes nothing.
 use Rattle.std.specs.Prelude.{List, ◌++◌, ℕ, ◌+◌, ◌/◌, ◌%◌, get_or}
 use Rattle.octets.specs.Numbers.{to_big_endian}
 use Rattle.octets.specs.Xor.{xor_with}

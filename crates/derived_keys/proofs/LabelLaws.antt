@@ -17,31 +17,38 @@ use Rattle.protocol.specs.Keys.{derived_keys}
 use Rattle.protocol.specs.Suite.{kdf}
 use Rattle.protocol.proofs.SuiteLaws.{kdf_is, suite_sound}
 use Rattle.derived_keys.specs.declared.Keys.{Keys}
+use Rattle.derived_keys.specs.declared.purpose.Purposes.{Purposes}
+use Rattle.derived_keys.specs.Purposes.{keys_by, IsFor311, IsFor300}
 use Rattle.derived_keys.specs.Reading.{stored}
 
--- a key of 16 bytes out of the session key
-pub key_is : (r k material label context : Bytes) → k ≡ session_key material → r ≡ derive_sha256 16 k label context
-    → r ≡ kdf 16 (session_key material) label context
-key_is r k material label context ek e = e ∙ ap (λ (x : Bytes). derive_sha256 16 x label context) ek ∙ sym (kdf_is 16 (session_key material) label context)
+-- a wide key has no zeros behind it
+pub wide_key : (material label context r : Bytes) → r ≡ derive_sha256 32 material label context → r ≡ zero_padded 32 (kdf 32 material label context)
+wide_key material label context r e =
+    e ∙ sym (kdf_is 32 material label context) ∙ sym (zero_padded_exact 32 _ (suite_sound.key_length true material label context))
 
-module _ (wide : Bool) (material label context r : Bytes) where
-  abbrev cipher_key : Bytes
-  cipher_key = kdf (cipher_key_bytes wide) (cipher_material wide material) label context
+-- the columns of the table
+module _ (material : Bytes) (p : Purposes) where
+  pub by_311 : (wide : Bool) (chain : Bytes) → IsFor311 chain p → keys_by wide material p ≡ keys311 kdf wide chain material
+  by_311 wide chain f =
+      let s = session_key material in
+      let n = cipher_key_bytes wide in
+      let m = cipher_material wide material in
+      λ i. record {
+        signing = kdf 16 s (f.signing.labelled i) (f.signing.bound i);
+        application = kdf 16 s (f.application.labelled i) (f.application.bound i);
+        client_to_server = kdf n m (f.client_to_server.labelled i) (f.client_to_server.bound i);
+        server_to_client = kdf n m (f.server_to_client.labelled i) (f.server_to_client.bound i);
+      }
 
-  pub wide_key : wide ≡ true → r ≡ derive_sha256 32 material label context → r ≡ zero_padded 32 cipher_key
-  wide_key w e =
-      e
-      ∙ sym (kdf_is 32 material label context)
-      ∙ sym (zero_padded_exact 32 _ (suite_sound.key_length true material label context))
-      ∙ rw w
-
-  pub narrow_key : (k d : Bytes) → wide ≡ false → k ≡ session_key material → d ≡ derive_sha256 16 k label context → r ≡ zero_padded 32 d
-      → r ≡ zero_padded 32 cipher_key
-  narrow_key k d w ek ed e = e ∙ ap (zero_padded 32) (key_is d k material label context ek ed) ∙ rw w
-
-pub same_keys : (k : Keys) (l : rules.Keys) → k.signing ≡ l.signing → k.application ≡ l.application
-    → k.client_to_server ≡ zero_padded 32 l.client_to_server → k.server_to_client ≡ zero_padded 32 l.server_to_client → k ≡ stored l
-same_keys k l s a c d = λ i. record { signing = s i; application = a i; client_to_server = c i; server_to_client = d i }
+  pub by_300 : IsFor300 p → keys_by false material p ≡ keys300 kdf material
+  by_300 f =
+      let s = session_key material in
+      λ i. record {
+        signing = kdf 16 s (f.signing.labelled i) (f.signing.bound i);
+        application = kdf 16 s (f.application.labelled i) (f.application.bound i);
+        client_to_server = kdf 16 s (f.client_to_server.labelled i) (f.client_to_server.bound i);
+        server_to_client = kdf 16 s (f.server_to_client.labelled i) (f.server_to_client.bound i);
+      }
 
 module _ (dialect cipher : ℕ) (chain material : Bytes) where
   pub derived_311 : (k : Keys) (wide : Bool) → wide ≡ is_wide dialect cipher → dialect ≡ 0x0311 → k ≡ stored (keys311 kdf wide chain material)

@@ -1,15 +1,18 @@
-// The table of RULES 7: a label and a context for each key. Both carry their own final zero byte.
+// The table of RULES 7: a label and a context for each key.
 #![tactic(auto)]
 
-ghost use Rattle.std.specs.Prelude.{◌≡◌};
-ghost use Rattle.octets.specs.Blocks.{zero_padded};
-ghost use Rattle.protocol.specs.Connection.{cipher_key_bytes};
-ghost use Rattle.protocol.specs.Keys.{cipher_material, keys311, keys300, derived_keys};
-ghost use Rattle.protocol.specs.Suite.{kdf};
-ghost use Rattle.derived_keys.specs.Reading.{stored};
+mod purpose;
 
-use blocks::block_at;
-use kdf::{derive_16, derive_32};
+ghost use Rattle.std.specs.Prelude.{◌≡◌};
+ghost use Rattle.protocol.specs.Keys.{derived_keys};
+ghost use Rattle.protocol.specs.Suite.{kdf};
+ghost use Rattle.dialects.specs.Reading.{wide_in};
+ghost use Rattle.derived_keys.specs.Reading.{stored};
+ghost use Rattle.derived_keys.specs.Purposes.{keys_by};
+
+use blocks::zero_padded;
+use connection::{KeySize, SMB_311};
+use purpose::{Purposes, of_300, of_311};
 
 // A cipher key of 16 bytes has zeros behind it.
 #[derive(Clone, Copy)]
@@ -20,57 +23,20 @@ pub struct Keys {
     pub server_to_client: [u8; 32],
 }
 
-// Zeros behind a key of 16 bytes.
-fn padded(key: [u8; 16]) -> [u8; 32]
-    ensures { result ≡ zero_padded 32 key }
+// The four keys by a column of the table.
+fn keys_for(size: KeySize, material: &[u8], purposes: Purposes) -> Keys
+    ensures { result ≡ stored (keys_by (wide_in size) material.now purposes.entry) }
 {
-    let mut r = [0u8; 32];
-    runs::copy(&mut r, 0, &key);
-    r
-}
-
-// A cipher key: of 32 bytes out of the full material, or of 16 out of the session key.
-fn cipher_key(wide: bool, material: &[u8], label: &[u8], context: &[u8]) -> [u8; 32]
-    ensures { result ≡ zero_padded 32 (kdf (cipher_key_bytes wide) (cipher_material wide material.now) label.now context.now) }
-{
-    if wide {
-        return derive_32(material, label, context);
-    }
-    let session_key = block_at(material, 0);
-    padded(derive_16(&session_key, label, context))
-}
-
-// 3.1.1: the context is the chain value.
-fn keys_311(wide: bool, chain: &[u8], material: &[u8]) -> Keys
-    ensures { result ≡ stored (keys311 kdf wide chain.now material.now) }
-{
-    let key = block_at(material, 0);
-    let signing = derive_16(&key, b"SMBSigningKey\0", chain);
-    let application = derive_16(&key, b"SMBAppKey\0", chain);
-    let client_to_server = cipher_key(wide, material, b"SMBC2SCipherKey\0", chain);
-    let server_to_client = cipher_key(wide, material, b"SMBS2CCipherKey\0", chain);
+    let session_key = zero_padded(material);
+    let signing = purposes.signing.key(session_key);
+    let application = purposes.application.key(session_key);
+    let client_to_server = purposes.client_to_server.cipher_key(size, material);
+    let server_to_client = purposes.server_to_client.cipher_key(size, material);
     Keys {
-        signing: signing,
-        application: application,
-        client_to_server: client_to_server,
-        server_to_client: server_to_client,
-    }
-}
-
-// 3.0 and 3.0.2: the contexts are fixed. "ServerIn " ends in a space.
-fn keys_300(material: &[u8]) -> Keys
-    ensures { result ≡ stored (keys300 kdf material.now) }
-{
-    let key = block_at(material, 0);
-    let signing = derive_16(&key, b"SMB2AESCMAC\0", b"SmbSign\0");
-    let application = derive_16(&key, b"SMB2APP\0", b"SmbRpc\0");
-    let client_to_server = cipher_key(false, material, b"SMB2AESCCM\0", b"ServerIn \0");
-    let server_to_client = cipher_key(false, material, b"SMB2AESCCM\0", b"ServerOut\0");
-    Keys {
-        signing: signing,
-        application: application,
-        client_to_server: client_to_server,
-        server_to_client: server_to_client,
+        signing,
+        application,
+        client_to_server,
+        server_to_client,
     }
 }
 
@@ -78,10 +44,9 @@ fn keys_300(material: &[u8]) -> Keys
 pub fn derived(dialect: u16, cipher: u16, chain: &[u8], material: &[u8]) -> Keys
     ensures { result ≡ stored (derived_keys kdf dialect cipher chain.now material.now) }
 {
-    let wide = connection::is_wide(dialect, cipher);
-    if dialect == 0x0311 {
-        keys_311(wide, chain, material)
+    if dialect == SMB_311 {
+        keys_for(KeySize::of(dialect, cipher), material, of_311(chain))
     } else {
-        keys_300(material)
+        keys_for(KeySize::Bits128, material, of_300())
     }
 }

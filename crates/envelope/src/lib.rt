@@ -4,28 +4,25 @@
 ghost use Rattle.std.specs.Prelude.{◌≡◌};
 ghost use Rattle.protocol.specs.Connection.{other};
 ghost use Rattle.protocol.specs.Calls.{sent_by};
-ghost use Rattle.connection.specs.Reading.{connection_of};
+ghost use Rattle.connection.specs.Reading.{role_in};
 ghost use Rattle.compound.specs.Reading.{envelope_of};
 
 use compound::Envelope;
-use connection::Connection;
+use connection::Role;
 
 // Of a message that this end seals.
-pub fn sent(c: Connection, id: u64) -> Envelope
-    ensures { envelope_of result ≡ sent_by (connection_of c).role id }
+pub fn sent(role: Role, id: u64) -> Envelope
+    ensures { envelope_of result ≡ sent_by (role_in role) id }
 {
     Envelope {
-        id: id,
-        from_server: c.role != connection::CLIENT,
+        id,
+        from_server: role == Role::Server,
     }
 }
 
-// Of a message that this end opens.
-pub fn received(c: Connection, id: u64) -> Envelope
-    ensures { envelope_of result ≡ sent_by (other (connection_of c).role) id }
+// Of a message that this end opens: the other one sealed it.
+pub fn received(role: Role, id: u64) -> Envelope
+    ensures { envelope_of result ≡ sent_by (other (role_in role)) id }
 {
-    Envelope {
-        id: id,
-        from_server: c.role == connection::CLIENT,
-    }
+    sent(role.other(), id)
 }

@@ -36,12 +36,14 @@ module _ (v : Bytes) where
   unfolding begin_step
   begin_refused h es er = er ∙ ap (λ (x : FoldState). step_with x 40) es ∙ sym (ap begun_if (ne_eqb (length v) 64 h))
 
-  abbrev fresh : Sha512 → FoldState
-  fresh h = record { hash = h; joined = 0; head = replicate 12 0; underway = 1; spare = replicate 3 0 }
+  abbrev fresh : Sha512 → FoldState → FoldState
+  fresh h s = record { hash = h; joined = s.joined; head = s.head; underway = 1; spare = s.spare }
 
-  pub begin_done : {h : Sha512} {r : FoldStep} → length v ≡ 64 → h ≡ updated nothing_taken v → r ≡ step_with (fresh h) 0 → r ≡ begin_step v
-  unfolding begin_step begun_on
-  begin_done l eh er = er ∙ ap (λ (x : Sha512). step_with (fresh x) 0) eh ∙ sym (ap begun_if (eq-eqb (length v) 64 l))
+  pub begin_done : {h : Sha512} {none : FoldState} {r : FoldStep} → length v ≡ 64 → h ≡ updated nothing_taken v → none ≡ no_message
+      → r ≡ step_with (fresh h none) 0 → r ≡ begin_step v
+  unfolding begin_step begun_on no_message
+  begin_done l eh en er =
+      er ∙ ap₂ (λ (x : Sha512) (s : FoldState). step_with (fresh x s) 0) eh en ∙ sym (ap begun_if (eq-eqb (length v) 64 l))
 
 module _ (s : FoldState) (p : Bytes) where
   abbrev taken_if : Bool → FoldStep

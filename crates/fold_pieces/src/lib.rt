@@ -3,12 +3,11 @@
 
 ghost use Rattle.std.specs.Prelude.{◌≡◌, true};
 ghost use Rattle.protocol.specs.Preauth.{more_processing};
-ghost use Rattle.answer.specs.Reading.{answer_of};
+ghost use Rattle.answer.specs.Reading.{number_in, fold_answer_of};
 ghost use Rattle.fold_pieces.specs.State.{no_message, head_with, step_with};
 ghost use Rattle.fold_pieces.specs.Clauses.{begin_step, piece_step, end_answer, ended_with, end_value, Ends};
 
-use answer::Answer;
-use blocks::at_most;
+use answer::{Refusal, refuse};
 use runs::copy;
 use sha512::Sha512;
 
@@ -47,12 +46,12 @@ fn ended() -> FoldState
 }
 
 // What a begin and a piece hand back: they fold nothing yet.
-fn step(state: FoldState, number: u32) -> FoldStep
-    ensures { result ≡ step_with state number }
+fn step(state: FoldState, judged: Result<(), Refusal>) -> FoldStep
+    ensures { result ≡ step_with state (number_in judged) }
 {
     FoldStep {
-        state: state,
-        number: number,
+        state,
+        number: answer::number(judged),
         folded: 0,
     }
 }
@@ -62,16 +61,14 @@ pub fn begin(chain: &[u8]) -> FoldStep
     ensures { result ≡ begin_step chain.now }
 {
     if chain.len() != 64 {
-        return step(ended(), 40);
+        return step(ended(), Err(Refusal::BadLength));
     }
     let state = FoldState {
         hash: Sha512::new().update(chain),
-        joined: 0,
-        head: [0u8; 12],
         underway: 1,
-        spare: [0u8; 3],
+        ..ended()
     };
-    step(state, 0)
+    step(state, Ok(()))
 }
 
 // The first twelve bytes of what is joined, with the piece behind it.
@@ -79,8 +76,8 @@ fn head_with(head: [u8; 12], joined: u64, piece: &[u8]) -> [u8; 12]
     ensures { result ≡ head_with head joined piece.now }
 {
     let mut kept = head;
-    let at = at_most(joined as usize, 12);
-    let n = at_most(piece.len(), 12 - at);
+    let at = joined.min(12) as usize;
+    let n = piece.len().min(12 - at);
     copy(&mut kept, at, &piece[..n]);
     kept
 }
@@ -90,40 +87,30 @@ impl FoldState {
     pub fn piece(self, piece: &[u8]) -> FoldStep
         ensures { result ≡ piece_step self piece.now }
     {
-        let joined = self.joined;
-        if !((self.underway != 0) & connection::fits(joined, piece.len())) {
-            return step(self, 23);
+        let takes = (self.underway != 0) & connection::fits(self.joined, piece.len());
+        if !takes {
+            return step(self, Err(Refusal::FoldLength));
         }
-        let hash = self.hash;
-        let head = self.head;
-        let spare = self.spare;
         let state = FoldState {
-            hash: hash.update(piece),
-            joined: joined + piece.len() as u64,
-            head: head_with(head, joined, piece),
-            underway: self.underway,
-            spare: spare,
+            hash: self.hash.update(piece),
+            joined: self.joined + piece.len() as u64,
+            head: head_with(self.head, self.joined, piece),
+            ..self
         };
-        step(state, 0)
+        step(state, Ok(()))
     }
 
     // One fold of what is joined, if its status allows it. The status of a message that 23 refuses counts for nothing.
-    fn close(self, chain: &mut [u8], allowed: bool) -> Answer
-        ensures { (answer_of result ≡ end_answer self allowed chain.old) × (chain.new ≡ end_value self allowed chain.old) }
+    fn close(self, chain: &mut [u8], allowed: bool) -> Result<bool, Refusal>
+        ensures { (fold_answer_of result ≡ end_answer self allowed chain.old) × (chain.new ≡ end_value self allowed chain.old) }
     {
-        if chain.len() != 64 {
-            return Answer::Refused(40);
+        let ends = (self.underway != 0) & preauth::admits(self.joined);
+        refuse(chain.len() != 64, Refusal::BadLength)?;
+        refuse(!ends, Refusal::FoldLength)?;
+        if allowed {
+            chain.copy_from_slice(&self.hash.finish());
         }
-        if !((self.underway != 0) & preauth::admits(self.joined)) {
-            return Answer::Refused(23);
-        }
-        if !allowed {
-            return Answer::Done(0);
-        }
-        let hash = self.hash;
-        let value = hash.finish();
-        copy(chain, 0, &value);
-        Answer::Done(1)
+        Ok(allowed)
     }
 
     // A negotiate message or a session setup request: always folded.
@@ -137,19 +124,18 @@ impl FoldState {
     pub fn finish_response(self, chain: &mut [u8]) -> FoldStep
         ensures { Ends self (more_processing self.head) chain.old result chain.new }
     {
-        let head = self.head;
-        let allowed = preauth::asks_for_more(&head);
+        let allowed = preauth::asks_for_more(&self.head);
         finished(self.close(chain, allowed))
     }
 }
 
 // What a finish hands back: the state with no message, whatever it answers.
-fn finished(a: Answer) -> FoldStep
-    ensures { result ≡ ended_with (answer_of a) }
+fn finished(folded: Result<bool, Refusal>) -> FoldStep
+    ensures { result ≡ ended_with (fold_answer_of folded) }
 {
     FoldStep {
         state: ended(),
-        number: answer::number(a),
-        folded: answer::mark_to(a, 0),
+        number: answer::number(folded),
+        folded: answer::mark_to(folded, 0),
     }
 }

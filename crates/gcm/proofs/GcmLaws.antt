@@ -1,5 +1,4 @@
 -- Laws of GCM for the layer above: lengths, and that decryption undoes encryption.
--- Assumes nothing.
 use mathlib.Core.Path.{◌≡◌, sym, ap, ◌∙◌}
 use mathlib.Core.List.{List}
 use mathlib.Core.Option.{some}

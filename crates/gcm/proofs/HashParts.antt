@@ -1,5 +1,4 @@
 -- The code hashes the associated data, the ciphertext and the lengths one after the other: that is the hash of one string.
--- Assumes nothing.
 use mathlib.Core.Path.{◌≡◌, sym, ap, ◌∙◌}
 use mathlib.Core.List.{List, ◌++◌, append_assoc}
 use Prim.Native.Nat.{ℕ, ◌*◌}

@@ -1,7 +1,6 @@
 -- What the contracts of sealing and opening follow from.
--- Assumes nothing.
 use mathlib.Core.Path.{◌≡◌, ap, ◌∙◌}
-use mathlib.Core.Bool.{Bool, true, false}
+use mathlib.Core.Bool.{true, false}
 use mathlib.Core.List.{List}
 use Prim.Native.Nat.{ℕ}
 use Rattle.octets.specs.Same.{same_bytes}
@@ -25,11 +24,3 @@ module _ (E : List ℕ → List ℕ) (nonce aad t body u : List ℕ) (eu : u ≡
   opened_wrong s =
       let q : same_bytes t (tag E nonce aad body) ≡ false = rw (← eu) s in
       record { right = rw q; bytes = rw q }
-
--- the same cipher by another name
-pub sealed_under : {E F : List ℕ → List ℕ} {nonce aad text text' t : List ℕ} → E ≡ F → Sealed E nonce aad text text' t → Sealed F nonce aad text text' t
-sealed_under e s = rw e at s
-
-pub opened_under : {E F : List ℕ → List ℕ} {nonce aad t body body' : List ℕ} {r : Bool} → E ≡ F → Opened E nonce aad t body body' r
-    → Opened F nonce aad t body body' r
-opened_under e s = rw e at s

@@ -1,5 +1,4 @@
 -- SP 800-38D: GCM with nonces (IVs) of 12 bytes and tags of 16 bytes, over any block cipher E with blocks of 16 bytes.
--- Assumes nothing.
 use Rattle.std.specs.Prelude.{cond, List, ◌++◌, ℕ, ◌*◌, length, replicate}
 use Rattle.std.proofs.Math.Option.{Option, none, some}
 use Rattle.octets.specs.Numbers.{big_endian, to_big_endian}

@@ -1,5 +1,4 @@
 -- SP 800-38D, 6.4: GHASH. H and the result are elements of the field.
--- Assumes nothing.
 use Rattle.std.specs.Prelude.{List, ℕ, length}
 use Rattle.std.specs.Int.Bits.{bit_xor}
 use Rattle.octets.specs.Blocks.{block_count, over_blocks}

@@ -12,8 +12,8 @@ pub fn element(s: &[u8], at: usize) -> Element
     ensures { element_of result ≡ big_endian (zero_padded 16 (drop at s.now)) }
 {
     Element {
-        hi: big_endian::u64_at(s, at),
-        lo: big_endian::u64_at(s, at + 8),
+        hi: big_endian::number_at::<8>(s, at),
+        lo: big_endian::number_at::<8>(s, at + 8),
     }
 }
 
@@ -23,8 +23,7 @@ pub fn block(s: &[u8], at: usize) -> Element
     ensures { element_of result ≡ big_endian (zero_padded 16 (drop at s.now)) }
 {
     if s.len() - at < 16 {
-        let b = blocks::block_at(s, at);
-        element(&b, 0)
+        element(&blocks::zero_padded::<16>(&s[at..]), 0)
     } else {
         element(s, at)
     }

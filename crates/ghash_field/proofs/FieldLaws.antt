@@ -1,6 +1,6 @@
 -- The product of SP 800-38D, 6.3, is linear, can be cut at any bit, and its reduction can wait.
--- Assumes nothing.
-use Rattle.std.proofs.Common.{◌≡◌, ℕ, zero, suc, ◌+◌, ◌-◌, ◌*◌, ◌/◌, ◌%◌, ◌^◌, ◌<◌, ◌≤◌, sym, refl, ap, ◌∙◌, ap₂, le_refl, add-zero, mul_assoc, add_comm, suc-add, one-mul, pow-suc, zero-add, zero-mul, mul-one, div-one, arith, pow_pos, shr-shr}
+use Rattle.std.proofs.Common.{◌≡◌, ℕ, zero, suc, ◌+◌, ◌-◌, ◌*◌, ◌/◌, ◌%◌, ◌^◌, ◌<◌, ◌≤◌, sym, refl, ap, ◌∙◌, ap₂, le_refl, add-zero, mul_assoc}
+use Rattle.std.proofs.Common.{add_comm, suc-add, one-mul, pow-suc, zero-add, zero-mul, mul-one, div-one, arith, pow_pos, shr-shr}
 use native.Mathlib.Nat.{zero-div}
 use lib.Bits.{bit_xor, differ, xor_zero_r, xor_self}
 use lib.Pow.{high, low, field, mod-mod-pow, split}
@@ -160,3 +160,7 @@ product-terms n a b c d r eb ec ed er =
     ∙ ap₂ (λ (x y : ℕ). bit_xor (n / 8 % 2 * a) (bit_xor (n / 4 % 2 * x) y)) eb
     (ap₂ (λ (x y : ℕ). bit_xor (n / 2 % 2 * x) (bit_xor (n / 1 % 2 * y) 0)) cx dx)
     ∙ product_four n a
+
+-- 8 stands for the element 1
+pub one : (h : ℕ) → mul (four_bits 8) h ≡ h
+one h = sym (product-terms 8 h _ _ _ _ refl refl refl refl) ∙ simp (one-mul, zero-mul, xor_zero_r)

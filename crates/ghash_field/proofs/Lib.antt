@@ -2,5 +2,4 @@ pub mod Linear
 pub mod FieldLaws
 pub mod WordLaws
 pub mod WideLaws
-pub mod TableLaws
 pub mod Turns

@@ -1,6 +1,6 @@
 -- Two maps that keep exclusive or are equal below 2ⁿ if they are equal at the n powers of two there.
--- Assumes nothing.
-use Rattle.std.proofs.Common.{◌≡◌, ℕ, zero, suc, ◌*◌, ◌/◌, ◌%◌, ◌^◌, ◌<◌, sym, ap, ◌∙◌, subst, ap₂, add-zero, mod-lt, lt-suc_self, mul_comm, div-lt_iff_lt-mul, one-mul, pow-suc, div-add-mod', zero-mul, arith, pow_pos}
+use Rattle.std.proofs.Common.{◌≡◌, ℕ, zero, suc, ◌*◌, ◌/◌, ◌%◌, ◌^◌, ◌<◌, sym, ap, ◌∙◌, subst, ap₂, add-zero, mod-lt, lt-suc_self, mul_comm}
+use Rattle.std.proofs.Common.{div-lt_iff_lt-mul, one-mul, pow-suc, div-add-mod', zero-mul, arith, pow_pos}
 use lib.Arith.{lt-one}
 use lib.Bits.{bit_xor, xor_shifted, xor_self, xor_shr, xor_mod, xor_block}
 use Rattle.octets.proofs.BitXor.{xor_swap}

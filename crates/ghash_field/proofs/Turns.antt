@@ -1,5 +1,4 @@
 -- A turn of the multiplication takes four bits of each word in, and sixteen turns are the product.
--- Assumes nothing.
 use Rattle.std.proofs.Common.{◌≡◌, ℕ, ◌+◌, ◌-◌, ◌*◌, ◌/◌, ◌%◌, ◌^◌, ◌<◌, ◌≤◌, sym, ap, ◌∙◌, ap₂, mul_assoc, div-one, arith, pow_mono, pow-add, shr-shr}
 use lib.Bits.{bit_xor}
 use lib.Pow.{field, shl-shr}

@@ -1,6 +1,6 @@
 -- Sums of 256 bits in four words: adding, four steps to the left, and taking in the 64 bits to the right.
--- Assumes nothing.
-use Rattle.std.proofs.Common.{◌≡◌, ℕ, ◌+◌, ◌*◌, ◌/◌, ◌%◌, ◌^◌, ◌<◌, Bool, eqb, List, replicate, sym, refl, ap, ◌∙◌, ap₂, add-zero, mod-lt, arith, eqb→eq, pow_pos}
+use Rattle.std.proofs.Common.{◌≡◌, ℕ, ◌+◌, ◌*◌, ◌/◌, ◌%◌, ◌^◌, ◌<◌, Bool, eqb, List, replicate, sym, refl, ap, ◌∙◌, ap₂, add-zero, mod-lt, arith}
+use Rattle.std.proofs.Common.{eqb→eq, pow_pos}
 use lib.Bits.{bit_xor, xor_zero_r, xor_shifted, xor_lt}
 use lib.Pow.{high, low as low_part}
 use Rattle.octets.proofs.Every.{at}

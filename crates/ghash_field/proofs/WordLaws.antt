@@ -1,6 +1,6 @@
 -- The field's operations on two words of 64 bits.
--- Assumes nothing.
-use Rattle.std.proofs.Common.{◌≡◌, ℕ, zero, suc, ◌+◌, ◌-◌, ◌*◌, ◌/◌, ◌%◌, ◌^◌, ◌<◌, sym, ap, ◌∙◌, ap₂, add-zero, mod-eq_of_lt, mul_assoc, one-mul, zero-mul, arith}
+use Rattle.std.proofs.Common.{◌≡◌, ℕ, zero, suc, ◌+◌, ◌-◌, ◌*◌, ◌/◌, ◌%◌, ◌^◌, ◌<◌, sym, ap, ◌∙◌, ap₂, add-zero, mod-eq_of_lt, mul_assoc, one-mul}
+use Rattle.std.proofs.Common.{zero-mul, arith}
 use lib.Bits.{bit_xor, bit_and, and_comm, and_mask, xor_zero_r, xor_block}
 use Rattle.ghash_field.specs.Field.{R, times_x}
 use Rattle.ghash_field.specs.Elements.{join}

@@ -1,6 +1,5 @@
 -- Helper definitions of the contracts: elements of the field in words, the table of a hash key, and sums that are not reduced yet.
--- Assumes nothing.
-use Rattle.std.specs.Prelude.{◌≡◌, ℕ, zero, suc, ◌+◌, ◌*◌, ◌/◌, ◌%◌, ◌^◌, ◌<◌, List, bit_xor, slice_index}
+use Rattle.std.specs.Prelude.{◌≡◌, ℕ, zero, suc, ◌+◌, ◌*◌, ◌/◌, ◌%◌, ◌^◌, ◌<◌, List, bit_xor, slice_index_or}
 use Rattle.ghash_field.specs.declared.Element.{Element}
 use Rattle.ghash_field.specs.declared.wide.Wide.{Wide}
 use Rattle.ghash_field.specs.Field.{times_x, mul}
@@ -16,9 +15,17 @@ element_of e = join e.hi e.lo
 abbrev pub four_bits : ℕ → ℕ
 four_bits n = n * 2 ^ 124
 
--- t holds the sixteen products of the four-bit values with h: first their high words, then their low ones
-pub record Products (t : List ℕ) (h : ℕ) : Type 0 where
-  pub product : (n : ℕ) → n < 16 → join (slice_index t n) (slice_index t (n + 16)) ≡ mul (four_bits n) h
+-- element number n of a table
+abbrev pub entry : List Element → ℕ → ℕ
+entry t n = element_of (slice_index_or t n (record { hi = 0; lo = 0 }))
+
+-- t holds the sixteen products of the four-bit values with h
+pub record Products (t : List Element) (h : ℕ) : Type 0 where
+  pub product : (n : ℕ) → n < 16 → entry t n ≡ mul (four_bits n) h
+
+-- the element whose products t holds, since 8 is the element 1
+abbrev pub subkey : List Element → ℕ
+subkey t = entry t 8
 
 -- the sum of those of a, b, c and d for which n has a bit, a for the highest of four
 abbrev pub terms : ℕ → ℕ → ℕ → ℕ → ℕ → ℕ

@@ -5,9 +5,12 @@
 mod terms;
 mod wide;
 
-ghost use Rattle.std.specs.Prelude.{◌≡◌, ℕ, ◌+◌, ◌<◌, bit_xor, slice_index};
+ghost use Rattle.std.specs.Prelude.{◌≡◌, bit_xor};
 ghost use Rattle.ghash_field.specs.Field.{mul};
-ghost use Rattle.ghash_field.specs.Elements.{element_of, join, Products};
+ghost use Rattle.ghash_field.specs.Elements.{element_of};
+
+use std::marker::Model;
+use std::ops::BitXor;
 
 // An element of the field: the high and the low word of its number.
 #[derive(Clone, Copy)]
@@ -16,58 +19,69 @@ pub struct Element {
     pub lo: u64,
 }
 
-pub fn add(a: Element, b: Element) -> Element
-    ensures { element_of result ≡ bit_xor (element_of a) (element_of b) }
-{
-    Element {
-        hi: a.hi ^ b.hi,
-        lo: a.lo ^ b.lo,
+// The sum of two elements.
+impl BitXor for Element {
+    type Output = Element;
+
+    fn bitxor(self, b: Element) -> Element
+        ensures { element_of result ≡ bit_xor (element_of self) (element_of b) }
+    {
+        Element {
+            hi: self.hi ^ b.hi,
+            lo: self.lo ^ b.lo,
+        }
     }
 }
 
-// The table of h: its products with the sixteen four-bit values.
-pub fn products(h: Element) -> [u64; 32]
-    ensures { Products result (element_of h) }
-{
-    let hx = terms::times_x(h);
-    let hx2 = terms::times_x(hx);
-    let hx3 = terms::times_x(hx2);
-    let mut t = [0u64; 32];
-    let mut n: usize = 0;
-    while n < 16 {
-        let e = terms::sum(n as u64, h, hx, hx2, hx3);
-        t[n] = e.hi;
-        t[n + 16] = e.lo;
-        n += 1;
-    }
-    t
+// The hash subkey H (6.4), ready for multiplication: its products with the sixteen four-bit values. Contracts see H, which is the product
+// with 8, since the first bit of an element stands for 1.
+#[derive(Drop)]
+pub struct HashKey {
+    pub products: [Element; 16],
 }
 
-// The product of the four bits n.
-fn at(t: &[u64; 32], n: u64) -> Element
-    requires { n < 16 }
-    ensures { element_of result ≡ join (slice_index t.now n) (slice_index t.now (n + 16)) }
-{
-    let i = n as usize;
-    Element {
-        hi: t[i],
-        lo: t[i + 16],
-    }
+impl Model for HashKey {
+    ghost use Rattle.std.specs.Prelude.{ℕ};
+    ghost use Rattle.ghash_field.specs.Elements.{subkey, Products};
+
+    ghost Value = { ℕ };
+
+    ghost view = { λ k. subkey k.products };
+
+    ghost invariant = { λ k. Products k.products (subkey k.products) };
 }
 
-// x • h, by the table of h. The words of x go side by side, four bits of each in a turn; the reduction waits for the end.
-pub fn multiply(t: &[u64; 32], x: Element) -> Element
-    ensures { (h : ℕ) → Products t.now h → element_of result ≡ mul (element_of x) h }
-{
-    let mut w = wide::zero();
-    let mut p = x.hi;
-    let mut q = x.lo;
-    let mut k: usize = 0;
-    while k < 16 {
-        w = wide::shifted(wide::added(w, at(t, p >> 60), at(t, q >> 60)));
-        p = p << 4;
-        q = q << 4;
-        k += 1;
+impl HashKey {
+    pub fn new(h: Element) -> HashKey
+        ensures { result ≡ element_of h }
+    {
+        let hx = terms::times_x(h);
+        let hx2 = terms::times_x(hx);
+        let hx3 = terms::times_x(hx2);
+        let mut products = [Element { hi: 0, lo: 0 }; 16];
+        for n in 0..16 {
+            products[n] = terms::sum(n as u64, h, hx, hx2, hx3);
+        }
+        HashKey { products }
     }
-    wide::reduced(w)
+
+    // x • H. The words of x go side by side, four bits of each in a turn; the reduction waits for the end.
+    pub fn times(&self, x: Element) -> Element
+        ensures { element_of result ≡ mul (element_of x) self.now }
+    {
+        let mut w = wide::zero();
+        let mut p = x.hi;
+        let mut q = x.lo;
+        for _k in 0..16usize {
+            let sum = wide::added(
+                w,
+                self.products[(p >> 60) as usize],
+                self.products[(q >> 60) as usize],
+            );
+            w = wide::shifted(sum);
+            p <<= 4;
+            q <<= 4;
+        }
+        wide::reduced(w)
+    }
 }

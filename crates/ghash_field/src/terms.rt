@@ -3,14 +3,14 @@ ghost use Rattle.std.specs.Prelude.{◌≡◌, ◌*◌, ◌<◌};
 ghost use Rattle.ghash_field.specs.Field.{times_x};
 ghost use Rattle.ghash_field.specs.Elements.{element_of, terms};
 
-use crate::{Element, add};
+use crate::Element;
 
 // x where the bit b is 1, and 0 where it is 0, by a mask of 64 equal bits.
 fn bit_times(b: u64, x: u64) -> u64
     requires { b < 2 }
     ensures { result ≡ b * x }
 {
-    std::num::wrapping_sub_u64(0, b) & x
+    b.wrapping_neg() & x
 }
 
 // v · x.
@@ -38,8 +38,5 @@ fn select(b: u64, y: Element) -> Element
 pub fn sum(n: u64, a: Element, b: Element, c: Element, d: Element) -> Element
     ensures { element_of result ≡ terms n (element_of a) (element_of b) (element_of c) (element_of d) }
 {
-    add(
-        add(select(n / 8 % 2, a), select(n / 4 % 2, b)),
-        add(select(n / 2 % 2, c), select(n % 2, d)),
-    )
+    (select(n / 8 % 2, a) ^ select(n / 4 % 2, b)) ^ (select(n / 2 % 2, c) ^ select(n % 2, d))
 }

@@ -1,12 +1,12 @@
 -- Counter mode with HMAC-SHA-256: K(1) out of its pieces, and a key of at most 32 bytes, which is the beginning of K(1).
 -- Assumes nothing.
-use mathlib.Core.Path.{◌≡◌, ap, ap₂, ◌∙◌}
+use mathlib.Core.Path.{◌≡◌, sym, ap, ap₂, ◌∙◌}
 use mathlib.Core.List.{List, [], ◌∷◌, ◌++◌, append_assoc}
-use Prim.Native.Nat.{ℕ, ◌+◌, ◌-◌, ◌*◌, ◌/◌, ◌<◌, ◌≤◌}
+use Prim.Native.Nat.{ℕ, zero, suc, ◌+◌, ◌-◌, ◌*◌, ◌/◌, ◌<◌, ◌≤◌}
 use native.Mathlib.Omega.{arith}
 use lib.ListN.{length, take}
 use lib.Seq.{length-take-le}
-use Rattle.octets.specs.Numbers.{to_big_endian}
+use Rattle.octets.specs.Numbers.{to_big_endian, bytes_at}
 use Rattle.sha_2.specs.Sha256.{sha256}
 use Rattle.hmac.specs.Hmac.{hmac}
 use Rattle.hmac.proofs.Lengths.{length-hmac}
@@ -43,3 +43,10 @@ module _ (n : ℕ) (l : 0 < n) (h : n ≤ 32) (key label context : List ℕ) whe
       let text : List ℕ = 0 ∷ 0 ∷ 0 ∷ 1 ∷ (label ++ (0 ∷ (context ++ to_big_endian 4 (8 * n)))) in
       let k : length (hmac sha256 key text) ≡ 32 = length-hmac sha256 key text in
       ap length of-bytes ∙ length-take-le n (hmac sha256 key text) (omega arith)
+
+-- the same where no byte is asked for, and no block
+pub of-bytes-at : (n : ℕ) → n ≤ 32 → (key label context : List ℕ) {k r : List ℕ}
+    → k ≡ block (hmac sha256) 32 key 1 (fixed_input label context (8 * n)) → r ≡ bytes_at 0 n k → r ≡ derive_sha256 n key label context
+unfolding derive blocks
+of-bytes-at zero h key label context ek er = er
+of-bytes-at (suc n) h key label context ek er = er ∙ ap (take (suc n)) ek ∙ sym (of-first-block (suc n) (omega arith) h key label context)

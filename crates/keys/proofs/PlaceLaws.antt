@@ -8,6 +8,7 @@ use native.Mathlib.Omega.{arith}
 use lib.ListN.{length, take}
 use lib.Seq.{paste, length-paste, take-paste, take-length, take_all}
 use Rattle.protocol.specs.Bytes.{Bytes}
+use Rattle.protocol.specs.Connection.{cipher_key_bytes, place_bytes}
 use Rattle.protocol.specs.Keys as rules
 use Rattle.derived_keys.specs.declared.Keys.{Keys}
 use Rattle.derived_keys.specs.Reading.{keys_in}
@@ -39,17 +40,6 @@ written-whole all n a b c d place e w =
     let joined : (([] ++ a) ++ b) ++ c ++ d ≡ a ++ (b ++ (c ++ d)) = simp append_assoc in
     sym whole ∙ w.front ∙ joined
 
--- what is written of the struct, by the size of its cipher keys
-module _ (wide : Bool) (k : Keys) (place : Bytes) where
-  pub whole-written : wide ≡ true → length k.client_to_server ≡ 32 → length k.server_to_client ≡ 32
-      → place ≡ k.signing ++ (k.application ++ (k.client_to_server ++ k.server_to_client)) → place ≡ rules.keys_in_order (keys_in wide k)
-  whole-written w lc ls e =
-      e
-      ∙ ap₂ (λ (x y : Bytes). k.signing ++ (k.application ++ (x ++ y)))
-      (sym (take_all 32 k.client_to_server (omega arith)))
-      (sym (take_all 32 k.server_to_client (omega arith)))
-      ∙ rw w
-
-  pub short-written : wide ≡ false → (c s : Bytes) → c ≡ take 16 k.client_to_server → s ≡ take 16 k.server_to_client
-      → place ≡ k.signing ++ (k.application ++ (c ++ s)) → place ≡ rules.keys_in_order (keys_in wide k)
-  short-written w c s ec es e = e ∙ ap₂ (λ (x y : Bytes). k.signing ++ (k.application ++ (x ++ y))) ec es ∙ rw w
+pub place_size : (wide : Bool) → place_bytes wide ≡ 32 + cipher_key_bytes wide + cipher_key_bytes wide
+place_size true = refl
+place_size false = refl

@@ -1,48 +1,27 @@
 -- What a turn leaves, reading by reading.
 -- Assumes nothing.
-use mathlib.Core.Path.{refl, ◌≡◌, sym, ap, subst, ◌∙◌}
+use mathlib.Core.Path.{◌≡◌, sym, ap, subst, ◌∙◌}
 use mathlib.Core.Bool.{Bool, cond}
-use mathlib.Core.List.{[], ◌∷◌, ◌++◌}
-use Prim.Native.Nat.{ℕ, ◌+◌, ◌-◌, ◌<◌, ◌≤◌}
+use mathlib.Core.List.{◌++◌}
+use Prim.Native.Nat.{ℕ, ◌+◌, ◌-◌, ◌≤◌}
 use native.Mathlib.Omega.{arith}
-use borrow.Author.Tests.{lt-ltb, le-ltb}
+use borrow.Author.Tests.{le-ltb}
 use lib.ListN.{length, take, drop, length-take, length-drop}
 use lib.Seq.{drop-drop}
 use Rattle.octets.specs.Numbers.{bytes_at}
 use Rattle.protocol.specs.Bytes.{Bytes}
-use Rattle.trace_format.specs.Format.{Edition, Reading, found, end, unreadable, read_at}
-use Rattle.trace_reader.specs.Answers.{reading_of}
-use Rattle.trace_reader.specs.declared.Read.{Read}
-use Rattle.trace_reader.specs.declared.Read.TheVariants as at
-use Rattle.trace_format.proofs.FormatLaws.{Was, not_end, admitted_24}
+use Rattle.trace_format.specs.Format.{Edition, Reading, found}
+use Rattle.trace_format.proofs.FormatLaws.{Was, admitted_24}
 use Rattle.lab_rules.specs.Steps.{State, Steps, step_number, step_state, step_payload}
 use Rattle.lab_rules.specs.Replay.{held, answered, long, outcome, state_after, file_after, place_after}
 use Rattle.lab_state.specs.Reading.{state_of}
 use Rattle.lab_state.specs.declared.Lab.{Lab}
 use Rattle.lab.specs.Reading.{Turns}
-use Rattle.lab.specs.declared.Line.TheVariants.{Number, Long, Stop, End}
+use Rattle.lab.specs.declared.Line.TheVariants.{Number}
 
 module _ (r : Reading) (l : Lab) (f : Bytes) (p : ℕ) where
   abbrev s : State
   s = state_of l
-
-  pub ends : end ≡ r → Turns r s f f p (record { line = End; next = p; lab = l })
-  ends e =
-      record {
-        line = ap (λ (x : Reading). outcome x s f p) e;
-        lab = ap (λ (x : Reading). state_after x s f) e;
-        place = ap (λ (x : Reading). place_after x p) e;
-        file = ap (λ (x : Reading). file_after x s f) e;
-      }
-
-  pub stops : unreadable ≡ r → Turns r s f f p (record { line = Stop p; next = p; lab = l })
-  stops e =
-      record {
-        line = ap (λ (x : Reading). outcome x s f p) e;
-        lab = ap (λ (x : Reading). state_after x s f) e;
-        place = ap (λ (x : Reading). place_after x p) e;
-        file = ap (λ (x : Reading). file_after x s f) e;
-      }
 
   module _ (k : ℕ) (d : Bool) (q n next : ℕ) (e : found k d q n next ≡ r) where
     abbrev m : Bytes
@@ -50,16 +29,6 @@ module _ (r : Reading) (l : Lab) (f : Bytes) (p : ℕ) where
 
     abbrev put : Bytes → Bytes
     put x = take q f ++ (x ++ drop next f)
-
-    pub too_long : held < n → Turns r s f f p (record { line = Long; next = next; lab = l })
-    too_long h =
-        let t = sym (lt-ltb held n h) in
-        record {
-          line = ap (λ (b : Bool). cond b long (answered (step_number k d m s))) t ∙ ap (λ (x : Reading). outcome x s f p) e;
-          lab = ap (λ (b : Bool). cond b s (step_state k d m s)) t ∙ ap (λ (x : Reading). state_after x s f) e;
-          place = ap (λ (x : Reading). place_after x p) e;
-          file = ap (λ (b : Bool). cond b f (put (step_payload k d m s))) t ∙ ap (λ (x : Reading). file_after x s f) e;
-        }
 
     pub stepped : n ≤ held → (m' f' : Bytes) (number : ℕ) (l' : Lab) → Steps k d m m' s number (state_of l') → f' ≡ put m'
         → Turns r s f f' p (record { line = Number number; next = next; lab = l' })
@@ -76,13 +45,6 @@ module _ (r : Reading) (l : Lab) (f : Bytes) (p : ℕ) where
               ∙ ap (λ (b : Bool). cond b f (put (step_payload k d m s))) t
               ∙ ap (λ (x : Reading). file_after x s f) e;
         }
-
--- a reading that is no record, of a place inside the file
-pub no_record : (e : Edition) (f : Bytes) (p : ℕ) (r : Read) → p < length f → reading_of r ≡ read_at e f p → ((k : ℕ) (d : Bool) (start n next : ℕ) → r ≡ at.Record k d start n next → ⊥)
-    → unreadable ≡ read_at e f p
-no_record e f p (at.Record k d start n next) h t o = absurd (o k d start n next refl)
-no_record e f p at.End h t o = absurd (not_end e f p h t)
-no_record e f p at.Unreadable h t o = t
 
 -- the payload as it is lent, and what is put back
 module _ (e : Edition) (f : Bytes) (p k q n next : ℕ) (w : Was e f p k q n next) where

@@ -5,9 +5,8 @@ ghost use Rattle.trace_format.specs.Format.{edition_of, read_at};
 ghost use Rattle.lab_state.specs.Reading.{state_of};
 ghost use Rattle.lab.specs.Reading.{Turns};
 
-pub use lab_state::{Lab, fresh};
+pub use lab_state::Lab;
 use lab_steps::step;
-use trace_reader::Read;
 
 // The payload that the replay holds; a longer one gets "long" for its number.
 pub const HELD: usize = 65536;
@@ -34,39 +33,35 @@ pub struct Turn {
 pub fn replay_at(edition: u8, lab: Lab, file: &mut [u8], at: usize) -> Turn
     ensures { Turns (read_at (edition_of edition) file.old at) (state_of lab) file.old file.new at result }
 {
-    if file.len() <= at {
-        return Turn {
+    match trace_reader::read_record(edition, file, at) {
+        Ok(Some(record)) if record.len <= HELD => {
+            let mut after = lab;
+            let number = step(
+                &mut after,
+                record.kind,
+                record.from_server,
+                &mut file[record.start..record.next],
+            );
+            Turn {
+                line: Line::Number(number),
+                next: record.next,
+                lab: after,
+            }
+        }
+        Ok(Some(record)) => Turn {
+            line: Line::Long,
+            next: record.next,
+            lab,
+        },
+        Ok(None) => Turn {
             line: Line::End,
             next: at,
-            lab: lab,
-        };
-    }
-    let Read::Record {
-        kind,
-        from_server,
-        start,
-        len,
-        next,
-    } = trace_reader::read_record(edition, file, at)
-    else {
-        return Turn {
+            lab,
+        },
+        Err(_) => Turn {
             line: Line::Stop(at),
             next: at,
-            lab: lab,
-        };
-    };
-    if HELD < len {
-        return Turn {
-            line: Line::Long,
-            next: next,
-            lab: lab,
-        };
-    }
-    let r = step(lab, kind, from_server, &mut file[start..next]);
-    let after = r.lab;
-    Turn {
-        line: Line::Number(r.number),
-        next: next,
-        lab: after,
+            lab,
+        },
     }
 }

@@ -3,7 +3,7 @@
 
 ghost use Rattle.std.specs.Prelude.{◌≡◌};
 ghost use Rattle.connection.specs.Reading.{connection_of};
-ghost use Rattle.lab_rules.specs.Steps.{fresh_state, receiving, with_session};
+ghost use Rattle.lab_rules.specs.Steps.{fresh_state, receiving};
 ghost use Rattle.lab_state.specs.Reading.{state_of};
 
 use connection::Connection;
@@ -19,45 +19,38 @@ pub struct Lab {
     pub table: Table,
 }
 
-// Fresh chains, and no session.
-pub fn fresh(dialect: u16, cipher: u16) -> Lab
-    ensures { state_of result ≡ fresh_state dialect cipher }
-{
-    let zeros = [0u8; 64];
-    let none = table_by_value::empty();
-    Lab {
-        dialect: dialect,
-        cipher: cipher,
-        connection: zeros,
-        session: zeros,
-        table: none,
+impl Lab {
+    // Fresh chains, and no session.
+    pub fn new(dialect: u16, cipher: u16) -> Lab
+        ensures { state_of result ≡ fresh_state dialect cipher }
+    {
+        let zeros = [0u8; 64];
+        let none = Table::empty();
+        Lab {
+            dialect,
+            cipher,
+            connection: zeros,
+            session: zeros,
+            table: none,
+        }
     }
-}
 
-// With another session chain.
-pub fn chained(from: Lab, chain: [u8; 64]) -> Lab
-    ensures { state_of result ≡ with_session chain (state_of from) }
-{
-    let mut lab = from;
-    lab.session = chain;
-    lab
-}
-
-// The connection of the receiver, which is the client where the message comes from the server: encryption on, no constraint.
-pub fn receiver(lab: Lab, from_server: bool) -> Connection
-    ensures { connection_of result ≡ receiving from_server (state_of lab) }
-{
-    let role = if from_server {
-        connection::CLIENT
-    } else {
-        connection::SERVER
-    };
-    Connection {
-        dialect: lab.dialect,
-        cipher: lab.cipher,
-        role: role,
-        encryption: 1,
-        constrained: 0,
-        spare: 0,
+    // The connection of the receiver, which is the client where the message comes from the server: encryption on, no constraint.
+    pub fn receiver(&self, from_server: bool) -> Connection
+        ensures { connection_of result ≡ receiving from_server (state_of self.now) }
+    {
+        let role = if from_server {
+            connection::CLIENT
+        } else {
+            connection::SERVER
+        };
+        Connection {
+            dialect: self.dialect,
+            cipher: self.cipher,
+            role,
+            encryption: 1,
+            constrained: 0,
+            spare: 0,
+        }
     }
 }

@@ -1,4 +1,4 @@
-// The limits on lengths and on the counter (RULES 2: 3, 17, 19 and 23).
+// The limits on lengths and on the counter (RULES 2: 3, 17, 19 and 23). Each is a function, so that a contract holds it to its definition.
 #![tactic(auto)]
 
 ghost use Rattle.std.specs.Prelude.{◌≡◌, ◌+◌, leb};
@@ -16,10 +16,7 @@ pub fn fits(length: u64, more: usize) -> bool
     ensures { result ≡ leb (length + more) longest_message }
 {
     let longest = longest_message() as u64;
-    if longest < length {
-        return false;
-    }
-    (more as u64) <= longest - length
+    length <= longest && more as u64 <= longest - length
 }
 
 // Number 19, of key material that cipher keys of 32 bytes come from.

@@ -1,38 +1,25 @@
-// Numbers in bytes, the lowest byte first.
+// Numbers as bytes and in bytes, the lowest byte first.
 #![tactic(auto)]
 
-ghost use Rattle.std.specs.Prelude.{◌≡◌, ◌+◌, ◌≤◌, ◌<◌, length};
-ghost use Rattle.octets.specs.Numbers.{little_endian, bytes_at};
+ghost use Rattle.std.specs.Prelude.{◌≡◌, ◌+◌, ◌^◌, ◌≤◌, ◌<◌, length};
+ghost use Rattle.octets.specs.Numbers.{little_endian, to_little_endian, bytes_at};
 
-// Numbers as bytes.
-pub use little_endian_bytes::{u32_bytes, u64_bytes};
-
-fn wide(x: u8) -> u16
-    ensures { (result ≡ x) × (result < 256) }
+// x as N bytes; what is above them is dropped.
+pub fn to_bytes<const N: usize>(x: u64) -> [u8; N]
+    requires { N ≤ 8 }
+    ensures { result ≡ to_little_endian N x }
 {
-    x as u16
+    arrays::bytes_at(&x.to_le_bytes(), 0)
 }
 
-// The number in the two bytes from `at` on.
-pub fn u16_at(b: &[u8], at: usize) -> u16
-    requires { at + 2 ≤ length b.now }
-    ensures { result ≡ little_endian (bytes_at at 2 b.now) }
+// The number in the N bytes from `at` on.
+pub fn number_at<const N: usize>(b: &[u8], at: usize) -> u64
+    requires within { at + N ≤ length b.now }
+    requires fits { N ≤ 8 }
+    ensures value { result ≡ little_endian (bytes_at at N b.now) }
+    ensures bound { result < 256 ^ N }
 {
-    wide(b[at]) + 256 * wide(b[at + 1])
-}
-
-// The number in the four bytes from `at` on.
-pub fn u32_at(b: &[u8], at: usize) -> u32
-    requires { at + 4 ≤ length b.now }
-    ensures { result ≡ little_endian (bytes_at at 4 b.now) }
-{
-    (u16_at(b, at) as u32) + 65536 * (u16_at(b, at + 2) as u32)
-}
-
-// The number in the eight bytes from `at` on.
-pub fn u64_at(b: &[u8], at: usize) -> u64
-    requires { at + 8 ≤ length b.now }
-    ensures { result ≡ little_endian (bytes_at at 8 b.now) }
-{
-    (u32_at(b, at) as u64) + 4294967296 * (u32_at(b, at + 4) as u64)
+    let mut word = [0u8; 8];
+    runs::copy(&mut word, 0, &b[at..at + N]);
+    u64::from_le_bytes(word)
 }

@@ -9,3 +9,4 @@ pub mod BlockLaws
 pub mod SameLaws
 pub mod Pairs
 pub mod MaybeLaws
+pub mod LibraryNumbers

@@ -6,10 +6,11 @@ use Prim.Native.Nat.{ℕ, zero, suc, ◌+◌, ◌<◌, ◌≤◌}
 use native.Mathlib.Nat.{not-suc-le-zero, le_of_suc-le-suc, le_of_eq, add-zero, zero-add}
 use native.Mathlib.Omega.{arith}
 use lib.Bits.{bit_xor}
-use lib.ListN.{length, get_or, take, drop}
-use lib.Seq.{take_all}
+use lib.ListN.{length, get_or, set, take, drop}
+use lib.Seq.{take_all, paste}
 use Rattle.octets.specs.Xor.{xor_with, xor}
 use Rattle.octets.proofs.BitXor.{xor_assoc, xor_undo}
+use Rattle.octets.proofs.Paste.{paste_next, paste_turn, paste_all}
 
 module _ (f : ℕ → ℕ) where
   pub length-xor_with : (i : ℕ) (xs : List ℕ) → length (xor_with f i xs) ≡ length xs
@@ -83,3 +84,22 @@ xor-bytes_assoc xs ys zs h =
     ∙ sym (take_all n (xor_with f 0 xs) (le_of_eq (length-xor_with f 0 xs)))
     ∙ take-xor_with f g 0 0 xs n agree
     ∙ take_all n (xor_with g 0 xs) (le_of_eq (length-xor_with g 0 xs))
+
+-- a turn of a loop that xors a byte string d in place, byte by byte: after i turns its first i bytes are xored
+pub xor_turn : (d ks l : List ℕ) (i : ℕ) → l ≡ paste d 0 (xor d ks) i → i < length d
+    → set l i (bit_xor (get_or l i 0) (get_or ks i 0)) ≡ paste d 0 (xor d ks) (i + 1)
+xor_turn d ks l i e h =
+    let s : List ℕ = xor d ks in
+    let f : ℕ → ℕ = λ j. get_or ks j 0 in
+    let ls : length s ≡ length d = length-xor d ks in
+    let z : i ≡ 0 + i = omega arith in
+    paste_turn d 0 s l i i _ e z h (omega arith)
+    (ap₂ (λ (x y : ℕ). bit_xor x (f y)) (paste_next d 0 s l i i e z (omega arith) (omega arith)) z
+    ∙ sym (get_or-xor_with f 0 d i h))
+
+-- after the last turn
+pub xor_done : (d ks : List ℕ) (i : ℕ) → i ≡ length d → paste d 0 (xor d ks) i ≡ xor d ks
+xor_done d ks i e =
+    let ls : length (xor d ks) ≡ length d = length-xor d ks in
+    let le : i ≡ length (xor d ks) = omega arith in
+    ap (paste d 0 (xor d ks)) le ∙ paste_all d 0 (xor d ks) (omega arith)

@@ -55,13 +55,10 @@ pub fn gather<R: Read>(file: &mut R, window: &mut [u8], n: usize) -> io::Result<
 fn words_end(text: &[u8]) -> usize
     ensures { result ≤ length text.now }
 {
-    let mut end = text.len();
-    for (i, b) in text.iter().enumerate() {
-        if *b == b'(' {
-            end = i.saturating_sub(1);
-        }
+    match text.iter().rposition(|b| *b == b'(') {
+        Some(i) => i.saturating_sub(1),
+        None => text.len(),
     }
-    end
 }
 
 // The error in the library's form, put at the start of the room: how many bytes. What has no room is left out.
@@ -82,35 +79,34 @@ fn reason(error: io::Error, room: &mut [u8]) -> usize
     words_end(&room[..n])
 }
 
-// A line on standard error: the program, what failed, and why. Where it cannot be written, nobody is told.
-pub fn fail(to: &impl Print, program: &[u8], what: &[u8], error: io::Error) {
-    let mut room = [0u8; 256];
-    let n = reason(error, &mut room);
-    let _ = to.write_all(program);
-    let _ = to.write_all(b": ");
-    let _ = to.write_all(what);
-    let _ = to.write_all(b": ");
-    let _ = to.write_all(&room[..n]);
-    let _ = to.write_all(b"\n");
+// A program, whose words on standard error begin with its name.
+#[derive(Clone, Copy)]
+pub struct Program<'a> {
+    pub rt: &'a HostRuntime,
+    pub name: &'a [u8],
 }
 
-// Writes to standard output: whether all of it was taken. If not, that is said on standard error.
-pub fn show(out: &impl Print, to: &impl Print, program: &[u8], text: &[u8]) -> bool {
-    match out.write_all(text) {
-        Ok(()) => true,
-        Err(error) => {
-            fail(to, program, b"standard output", error);
-            false
+impl Program<'_> {
+    // A line on standard error: the program, what failed, and why. Where it cannot be written, nobody is told.
+    pub fn complain(&self, what: &[u8], error: io::Error) {
+        let mut room = [0u8; 256];
+        let n = reason(error, &mut room);
+        let to = self.rt.stderr();
+        for part in [self.name, b": ", what, b": ", &room[..n], b"\n"] {
+            let _ = to.write_all(part);
         }
     }
-}
 
-// A line on standard error that is no failure of a call.
-pub fn say(to: &impl Print, program: &[u8], words: &[u8]) {
-    let _ = to.write_all(program);
-    let _ = to.write_all(b": ");
-    let _ = to.write_all(words);
-    let _ = to.write_all(b"\n");
+    // Writes to standard output: whether all of it was taken. If not, that is said on standard error.
+    pub fn answer(&self, text: &[u8]) -> bool {
+        match self.rt.stdout().write_all(text) {
+            Ok(()) => true,
+            Err(error) => {
+                self.complain(b"standard output", error);
+                false
+            }
+        }
+    }
 }
 
 // ---- arguments and names
@@ -125,19 +121,15 @@ pub fn has_argument(env: &impl Env, i: usize) -> bool {
 pub fn argument(env: &impl Env, i: usize, room: &mut [u8]) -> io::Result<usize>
     ensures { IfOk result (λ n. n ≤ length room.new) }
 {
-    match env.arg(i, room) {
-        Ok(n) => Ok(n),
-        Err(FillError::TooLong) => Err(io::Error::from_raw_os_error(NAME_TOO_LONG)),
-        Err(FillError::NotPresent) => Err(io::Error::from(ErrorKind::NotFound)),
-    }
+    env.arg(i, room).map_err(|error| match error {
+        FillError::TooLong => io::Error::from_raw_os_error(NAME_TOO_LONG),
+        FillError::NotPresent => io::Error::from(ErrorKind::NotFound),
+    })
 }
 
 // A name as the library takes it: one that is not UTF-8 names no file.
 fn text_of(name: &[u8]) -> io::Result<&str> {
-    match str::from_utf8(name) {
-        Ok(text) => Ok(text),
-        Err(_) => Err(io::Error::from_raw_os_error(NO_TEXT)),
-    }
+    str::from_utf8(name).map_err(|_| io::Error::from_raw_os_error(NO_TEXT))
 }
 
 // ---- files by their names

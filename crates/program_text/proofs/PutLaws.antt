@@ -1,22 +1,22 @@
 -- Runs of bytes, put one behind the other.
 -- Assumes nothing.
 use mathlib.Core.Path.{◌≡◌, refl, sym, ap, ap₂, subst, ◌∙◌}
-use mathlib.Core.Bool.{Bool, true, false, cond, ◌&&◌}
+use mathlib.Core.Bool.{Bool, true, cond}
 use mathlib.Core.List.{[], ◌++◌}
-use Prim.Native.Nat.{ℕ, ◌+◌, ◌-◌, ◌*◌, ◌/◌, ◌<◌, ◌≤◌}
+use Prim.Native.Nat.{ℕ, ◌+◌, ◌-◌, ◌*◌, ◌<◌, ◌≤◌}
 use native.Mathlib.Numerals.{add-one}
 use native.Mathlib.Omega.{arith}
-use borrow.Author.Tests.{leb-true, leb-false, le-leb, lt-leb}
+use borrow.Author.Tests.{leb-true, le-leb}
 use lib.Dec.{leb}
 use lib.ListN.{length, take, drop, get_or, length-append}
 use lib.Seq.{paste, paste-zero, length-paste, take_at, drop_at, take-length}
 use Rattle.octets.proofs.BoolLaws.{and_true}
 use Rattle.octets.proofs.Paste.{paste_more}
 use Rattle.program_text.specs.Lines.{Bytes, two_numbers, gap_lines}
-use Rattle.program_text.specs.Puts.{Put, PutIf, roomy, gaps_fit, PutGaps, PutLine}
+use Rattle.program_text.specs.Puts.{Put, PutIf, roomy, gaps_fit, PutLine}
 use Rattle.program_text.proofs.DecimalLaws.{length-decimal}
 
-paste_two : (d : Bytes) (at : ℕ) (a b : Bytes) → at + length a ≤ length d
+pub paste_two : (d : Bytes) (at : ℕ) (a b : Bytes) → at + length a ≤ length d
     → paste (paste d at a (length a)) (at + length a) b (length b) ≡ paste d at (a ++ b) (length (a ++ b))
 paste_two d at a b h =
     let l = length-append a b in
@@ -55,47 +55,12 @@ module _ {b text text' : Bytes} {at r : ℕ} where
 pub put_as : {a b text text' : Bytes} {at r : ℕ} → a ≡ b → Put a text at r text' → Put b text at r text'
 put_as {a} {b} {text} {text'} {at} {r} e p = subst (λ (x : Bytes). Put x text at r text') e p
 
-pub put_not : {b text : Bytes} {at : ℕ} {ok : Bool} → ok ≡ false → PutIf ok b text at at text
-put_not e = record { place = rw e refl; bytes = rw e refl }
-
--- nothing, put anywhere
-pub put-nothing : (ok : Bool) (text : Bytes) (at : ℕ) → PutIf ok [] text at at text
-put-nothing true text at = record { place = omega arith; bytes = paste-zero text at [] }
-put-nothing false text at = record { place = refl; bytes = refl }
-
 -- ---- room
-
-pub room_not : (text : Bytes) (at : ℕ) → length text < 42 → false ≡ roomy text at
-room_not text at h = sym (lt-leb (at + 42) (length text) (omega arith))
-
-pub room_is : (text : Bytes) (at : ℕ) → 42 ≤ length text → leb at (length text - 42) ≡ roomy text at
-room_is text at h = by (leb at (length text - 42)) refl
-  where
-    by : (t : Bool) → leb at (length text - 42) ≡ t → leb at (length text - 42) ≡ roomy text at
-    by true e = e ∙ sym (le-leb (at + 42) (length text) (let i = leb-true at (length text - 42) e in omega arith))
-    by false e = e ∙ sym (lt-leb (at + 42) (length text) (let i = leb-false at (length text - 42) e in omega arith))
 
 pub room_le : (text : Bytes) (at : ℕ) → roomy text at ≡ true → at + 42 ≤ length text
 room_le text at e = leb-true (at + 42) (length text) e
 
 -- ---- gaps
-
-by_42 : (n g : ℕ) → leb g (n / 42) ≡ leb (42 * g) n
-by_42 n g = by (leb g (n / 42)) refl
-  where
-    by : (t : Bool) → leb g (n / 42) ≡ t → leb g (n / 42) ≡ leb (42 * g) n
-    by true e = e ∙ sym (le-leb (42 * g) n (let i = leb-true g (n / 42) e in omega arith))
-    by false e = e ∙ sym (lt-leb (42 * g) n (let i = leb-false g (n / 42) e in omega arith))
-
-by_2 : (n g : ℕ) → leb g (n / 2) ≡ leb (2 * g) n
-by_2 n g = by (leb g (n / 2)) refl
-  where
-    by : (t : Bool) → leb g (n / 2) ≡ t → leb g (n / 2) ≡ leb (2 * g) n
-    by true e = e ∙ sym (le-leb (2 * g) n (let i = leb-true g (n / 2) e in omega arith))
-    by false e = e ∙ sym (lt-leb (2 * g) n (let i = leb-false g (n / 2) e in omega arith))
-
-pub gaps_fit_lem : (text list gaps : ℕ) → (leb gaps (text / 42) && leb gaps (list / 2)) ≡ gaps_fit text list gaps
-gaps_fit_lem text list gaps = ap₂ ◌&&◌ (by_42 text gaps) (by_2 list gaps)
 
 pub gaps-room : (text list gaps : ℕ) → gaps_fit text list gaps ≡ true → (42 * gaps ≤ text) × (2 * gaps ≤ list)
 gaps-room text list gaps e =
@@ -106,39 +71,33 @@ pub short : (a b : ℕ) → length (two_numbers a b) ≤ 42
 unfolding two_numbers
 short a b = let p = length-decimal a in let q = length-decimal b in simp length-append (omega arith)
 
--- before a turn: i lines are put
-pub record Listing (list text : Bytes) (gaps at i : ℕ) (text' : Bytes) : Type 0 where
-  pub lines : Put (gap_lines i list) text 0 at text'
-  pub inside : at ≤ 42 * i
+-- before a turn: i lines are put behind place p
+pub record Listing (list text : Bytes) (gaps p at i : ℕ) (text' : Bytes) : Type 0 where
+  pub lines : Put (gap_lines i list) text p at text'
+  pub inside : at ≤ p + 42 * i
   pub some : i ≤ gaps
   pub kept : length text' ≡ length text
 
-pub listing_start : (list text : Bytes) (gaps : ℕ) → Listing list text gaps 0 0 text
+pub listing_start : (list text : Bytes) (gaps p : ℕ) → Listing list text gaps p p 0 text
 unfolding gap_lines
-listing_start list text gaps =
-    record { lines = record { place = refl; bytes = paste-zero text 0 [] }; inside = omega arith; some = omega arith; kept = refl }
+listing_start list text gaps p =
+    record { lines = record { place = omega arith; bytes = paste-zero text p [] }; inside = omega arith; some = omega arith; kept = refl }
 
-pub listing_turn : {list text text' after : Bytes} {gaps at i r : ℕ} → Listing list text gaps at i text' → i < gaps → 42 * gaps ≤ length text
-    → PutLine (two_numbers (get_or list (2 * i) 0) (get_or list (2 * i + 1) 0)) text' at r after → Listing list text gaps r (i + 1) after
+pub listing_turn : {list text text' after : Bytes} {gaps p at i r : ℕ} → Listing list text gaps p at i text' → i < gaps → 42 * gaps ≤ length text - p
+    → PutLine (two_numbers (get_or list (2 * i) 0) (get_or list (2 * i + 1) 0)) text' at r after → Listing list text gaps p r (i + 1) after
 unfolding gap_lines
-listing_turn {list} {text} {text'} {after} {gaps} {at} {i} {r} s h room p =
+listing_turn {list} {text} {text'} {after} {gaps} {p} {at} {i} {r} s h room q =
     let line : Bytes = two_numbers (get_or list (2 * i) 0) (get_or list (2 * i + 1) 0) in
     let m = short (get_or list (2 * i) 0) (get_or list (2 * i + 1) 0) in
     let n = s.inside in
     let k = s.kept in
     let fits : at + 42 ≤ length text' = omega arith in
-    let there : Put line text' at r after = put-there (le-leb (at + 42) (length text') fits) p in
-    let z : at ≡ 0 + length (gap_lines i list) = s.lines.place in
-    let both : Put (gap_lines i list ++ line) text 0 r after = put_then (omega arith) s.lines there in
+    let there : Put line text' at r after = put-there (le-leb (at + 42) (length text') fits) q in
+    let z : at ≡ p + length (gap_lines i list) = s.lines.place in
+    let both : Put (gap_lines i list ++ line) text p r after = put_then (omega arith) s.lines there in
     record {
-      lines = subst (λ (j : ℕ). Put (gap_lines j list) text 0 r after) (sym (add-one i)) both;
+      lines = subst (λ (j : ℕ). Put (gap_lines j list) text p r after) (sym (add-one i)) both;
       inside = omega (arith, there.place);
       some = omega arith;
       kept = put-length (omega arith) there ∙ k;
     }
-
-pub listing_end : {list text text' : Bytes} {gaps at i : ℕ} → Listing list text gaps at i text' → gaps ≤ i → gaps_fit (length text) (length list) gaps ≡ true
-    → PutGaps gaps list text at text'
-listing_end {list} {text} {text'} {gaps} {at} {i} s h e =
-    let z : i ≡ gaps = omega (arith, s.some) in
-    put-done e (subst (λ (j : ℕ). Put (gap_lines j list) text 0 at text') z s.lines)

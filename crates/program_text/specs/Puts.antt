@@ -1,6 +1,6 @@
 -- What the code leaves in a lent text.
 -- Assumes nothing.
-use Rattle.std.specs.Prelude.{◌≡◌, Bool, cond, ◌&&◌, List, ℕ, ◌+◌, ◌*◌, leb, length}
+use Rattle.std.specs.Prelude.{◌≡◌, Bool, cond, ◌&&◌, List, ℕ, ◌+◌, ◌*◌, ◌-◌, leb, length}
 use Rattle.std.proofs.Math.Seq.{paste}
 use Rattle.program_text.specs.Lines.{Bytes, gap_lines}
 use Rattle.program_text.specs.Words.{folder_in, beside}
@@ -28,6 +28,10 @@ gaps_fit text list gaps = leb (42 * gaps) text && leb (2 * gaps) list
 
 abbrev pub PutGaps : ℕ → List ℕ → Bytes → ℕ → Bytes → Type 0
 PutGaps gaps list text r text' = PutIf (gaps_fit (length text) (length list) gaps) (gap_lines gaps list) text 0 r text'
+
+-- the same behind what a text has at a place: at its start it is `PutGaps`
+abbrev pub PutGapsAt : ℕ → List ℕ → Bytes → ℕ → ℕ → Bytes → Type 0
+PutGapsAt gaps list text at r text' = PutIf (gaps_fit (length text - at) (length list) gaps) (gap_lines gaps list) text at r text'
 
 -- the name, or the whole room where it does not hold the name: no path is as long
 pub record PutName (path room : Bytes) (r : ℕ) (room' : Bytes) : Type 0 where

@@ -5,12 +5,12 @@ ghost use Rattle.std.specs.Prelude.{◌≡◌, take, drop};
 pub fn front(b: &[u8], n: usize) -> &[u8]
     ensures { result.now ≡ take n b.now }
 {
-    if n <= b.len() { &b[..n] } else { b }
+    &b[..n.min(b.len())]
 }
 
 // All but the first n bytes, or none.
 pub fn behind(b: &[u8], n: usize) -> &[u8]
     ensures { result.now ≡ drop n b.now }
 {
-    if n <= b.len() { &b[n..] } else { &b[b.len()..] }
+    &b[n.min(b.len())..]
 }

@@ -10,11 +10,5 @@ ghost use Rattle.octets.specs.Same.{same_bytes};
 pub fn begins(m: &[u8], at: usize, first: u8) -> bool
     ensures { result ≡ same_bytes (bytes_at at 4 m.now) (first ∷ 0x53 ∷ 0x4D ∷ 0x42 ∷ []) }
 {
-    if m.len() < 4 {
-        return false;
-    }
-    if m.len() - 4 < at {
-        return false;
-    }
-    (m[at] == first) & ((m[at + 1] == 0x53) & ((m[at + 2] == 0x4D) & (m[at + 3] == 0x42)))
+    at <= m.len() && m[at..].starts_with(&[first, b'S', b'M', b'B'])
 }

@@ -1,56 +1,66 @@
-// The tests before a message is sealed or opened: the number of the first line of the table of numbers that applies, else what the later
-// lines say. A call's list is a chain of these.
+// The tests before a message is sealed or opened, in the order of the table of numbers. A call tests one list after the other.
 #![tactic(auto)]
 
-ghost use Rattle.std.specs.Prelude.{◌≡◌, length};
-ghost use Rattle.protocol.specs.Answer.{first_else};
-ghost use Rattle.protocol.specs.TransformHeader.{inner};
+ghost use Rattle.std.specs.Prelude.{◌≡◌, ◌++◌, length, IfOk};
+ghost use Rattle.protocol.specs.Answer.{first_of};
+ghost use Rattle.protocol.specs.TransformHeader.{inner, header_of};
 ghost use Rattle.protocol.specs.Calls.{key_tests, signing_key_tests, message_tests, header_tests};
+ghost use Rattle.answer.specs.Reading.{number_in};
 ghost use Rattle.connection.specs.Reading.{connection_of};
 ghost use Rattle.transform_header.specs.Reading.{header_from};
 
-use answer::refuse;
+use answer::{Refusal, refuse};
 use connection::Connection;
-use transform_header::TransformHeader;
+use transform_header::{TransformHeader, read_header};
 
 // 40, of a signing key.
-pub fn signing_key_number(key: &[u8], later: u32) -> u32
-    ensures { result ≡ first_else (signing_key_tests key.now) later }
+pub fn signing_key_tests(key: &[u8]) -> Result<(), Refusal>
+    ensures { number_in result ≡ first_of (signing_key_tests key.now) }
 {
-    refuse(40, !(key.len() == 16), later)
+    refuse(key.len() != 16, Refusal::BadLength)
 }
 
 // 40, of a cipher key.
-pub fn key_number(c: Connection, key: &[u8], later: u32) -> u32
-    ensures { result ≡ first_else (key_tests (connection_of c) key.now) later }
+pub fn key_tests(c: Connection, key: &[u8]) -> Result<(), Refusal>
+    ensures { number_in result ≡ first_of (key_tests (connection_of c) key.now) }
 {
-    let wide = connection::uses_wide(c);
-    let bytes = connection::cipher_key_bytes(wide);
-    refuse(40, !(key.len() == bytes), later)
+    refuse(key.len() != c.key_size().key_bytes(), Refusal::BadLength)
 }
 
 // How many bytes stand after the header.
 fn inner_length(m: &[u8]) -> usize
     ensures { result ≡ length (inner m.now) }
 {
-    if m.len() < 52 { 0 } else { m.len() - 52 }
+    m.len().saturating_sub(52)
 }
 
 // 1, 2, 3: of every sealing and opening.
-pub fn message_number(c: Connection, m: &[u8], later: u32) -> u32
-    ensures { result ≡ first_else (message_tests (connection_of c) m.now) later }
+pub fn message_tests(c: Connection, m: &[u8]) -> Result<(), Refusal>
+    ensures { number_in result ≡ first_of (message_tests (connection_of c) m.now) }
 {
-    let line3 = refuse(3, connection::longest_message() < inner_length(m), later);
-    let line2 = refuse(2, m.len() <= 52, line3);
-    refuse(1, !connection::encrypting(c), line2)
+    let long = connection::longest_message() < inner_length(m);
+    refuse(!c.encrypting(), Refusal::NotEncrypting)?;
+    refuse(m.len() <= 52, Refusal::TooShort)?;
+    refuse(long, Refusal::TooLong)
 }
 
-// 4, 5, 29: of every opening.
-pub fn header_number(c: Connection, h: TransformHeader, later: u32) -> u32
-    ensures { result ≡ first_else (header_tests (connection_of c) (header_from h)) later }
+// 4, 5, 29: of the header that is opened.
+fn header_tests(c: Connection, h: TransformHeader) -> Result<(), Refusal>
+    ensures { number_in result ≡ first_of (header_tests (connection_of c) (header_from h)) }
 {
-    let gcm = connection::uses_gcm(c);
-    let line29 = refuse(29, gcm & !(h.nonce_end == 0), later);
-    let line5 = refuse(5, !(h.flags == 1), line29);
-    refuse(4, !h.begins, line5)
+    refuse(!h.begins, Refusal::NotTransform)?;
+    refuse(h.flags != 1, Refusal::BadFlags)?;
+    refuse(c.uses_gcm() & (h.nonce_end != 0), Refusal::DirtyNonce)
+}
+
+// 1 to 5, 29: of every opening. What passes has this header.
+pub fn opening_tests(c: Connection, m: &[u8]) -> Result<TransformHeader, Refusal>
+    ensures number { number_in result ≡ first_of (message_tests (connection_of c) m.now ++ header_tests (connection_of c) (header_of m.now)) }
+    ensures header { IfOk result (λ h. header_from h ≡ header_of m.now) }
+{
+    message_tests(c, m)?;
+    // never refused here: a message with no room for a header was refused by 2
+    let h = read_header(m).ok_or(Refusal::TooShort)?;
+    header_tests(c, h)?;
+    Ok(h)
 }

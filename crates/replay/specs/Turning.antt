@@ -4,16 +4,14 @@ use Rattle.std.specs.Prelude.{◌≡◌, Bool, true, false, not, [], ℕ, ◌-�
 use Rattle.trace_format.specs.Format.{Bytes, Edition, read_at}
 use Rattle.lab_rules.specs.Steps.{State}
 use Rattle.lab_rules.specs.Replay.{Outcome, answered, long, stopped, ended, outcome, state_after, place_after}
-use Rattle.lab_state.specs.Reading.{state_of}
 use Rattle.lab.specs.Reading.{Turns}
 use Rattle.lab.specs.declared.Turn.{Turn}
 use Rattle.program_text.specs.Lines.{two_numbers, long_line, stop_line}
 use Rattle.program_text.specs.Puts.{PutLine}
 use Rattle.trace_window.specs.Window.{behind}
+use Rattle.trace_window.specs.declared.Cursor.{Cursor}
 use Rattle.trace_window.specs.declared.Step.{Step}
 use Rattle.trace_window.specs.declared.Step.TheVariants as steps
-use Rattle.replay.specs.declared.advance.Progress.{Progress}
-use Rattle.replay.specs.declared.turns.AfterTurn.{AfterTurn}
 
 abbrev pub is_turn : Step → Bool
 is_turn steps.Turn = true
@@ -41,20 +39,21 @@ pub record TurnsIn (e : Edition) (s : State) (n p : ℕ) (w w' : Bytes) (t : Tur
   pub turns : Turns (read_at e (take n w) p) s (take n w) (take n w') p t
   pub rest : drop n w' ≡ drop n w
 
--- the record at hand
-module _ (e : Edition) (s : State) (p : Progress) (w : Bytes) where
+-- the record at hand, by the cursor
+module _ (e : Edition) (s : State) (c : Cursor) (w : Bytes) where
   abbrev pub file : Bytes
-  file = take p.cursor.have w
+  file = take c.have w
 
   abbrev pub found : Outcome
-  found = outcome (read_at e file p.cursor.at) s file p.cursor.at
+  found = outcome (read_at e file c.at) s file c.at
 
   abbrev pub next : ℕ
-  next = place_after (read_at e file p.cursor.at) p.cursor.at
+  next = place_after (read_at e file c.at) c.at
 
-pub record TurnsTo (e : Edition) (s : State) (p : Progress) (w text : Bytes) (r : AfterTurn) (w' text' : Bytes) : Type 0 where
-  pub lab : state_of r.lab ≡ state_after (read_at e (file e s p w) p.cursor.at) s (file e s p w)
-  pub line : PutLine (line_bytes (found e s p w) p.cursor.index p.cursor.place) text p.used r.progress.used text'
-  pub cursor : r.progress.cursor ≡ behind (next e s p w - p.cursor.at) (next e s p w) p.cursor
-  pub over : r.progress.over ≡ not (goes_on (found e s p w))
-  pub rest : drop p.cursor.have w' ≡ drop p.cursor.have w
+-- a primed name is the value afterwards
+pub record TurnsTo (e : Edition) (s : State) (c : Cursor) (w text : Bytes) (used : ℕ) (s' : State) (c' : Cursor) (w' text' : Bytes) (used' : ℕ) (over : Bool) : Type 0 where
+  pub lab : s' ≡ state_after (read_at e (file e s c w) c.at) s (file e s c w)
+  pub line : PutLine (line_bytes (found e s c w) c.index c.place) text used used' text'
+  pub cursor : c' ≡ behind (next e s c w - c.at) (next e s c w) c
+  pub its_end : over ≡ not (goes_on (found e s c w))
+  pub rest : drop c.have w' ≡ drop c.have w

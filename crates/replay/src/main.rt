@@ -3,126 +3,86 @@
 // What fails is said on standard error, and then no further line is written.
 #![tactic(auto)]
 
-mod advance;
-mod turns;
+mod replay;
 
-use advance::{Progress, answer, complain, flushed, ready};
 use lab::Lab;
-use program_files::{argument, gather, has_argument, open};
-use program_text::front;
+use program_files::{Program, argument, gather, has_argument, open};
+use program_text::{Lines, asks_help, asks_version, front};
+use replay::Replay;
 use std::io::{IsTerminal, Print, Read};
-use trace_reader::FileHead;
-use trace_window::WINDOW;
-use turns::turn;
+use trace_reader::read_file_head;
+use trace_window::{Cursor, WINDOW};
 
-// The records, one after the other, until the replay is over. Nothing says that a file ends: they are counted, up to a number that no run
-// uses up.
-fn records<R: Read>(
-    rt: &HostRuntime,
-    file: &mut R,
-    name: &[u8],
-    edition: u8,
-    from: Lab,
-    start: Progress,
-    window: &mut [u8],
-    text: &mut [u8],
-) -> Progress {
-    let mut lab = from;
-    let mut p = start;
-    for _ in 0..u64::MAX {
-        let q = ready(rt, file, name, edition, p, window, text);
-        if q.over {
-            return q;
-        }
-        let t = turn(edition, lab, q, window, text);
-        lab = t.lab;
-        p = t.progress;
-    }
-    p
-}
-
-fn replay<R: Read>(rt: &HostRuntime, file: &mut R, name: &[u8]) {
+fn replay_bytes<R: Read>(program: Program<'_>, file: &mut R, name: &[u8]) {
     let mut window = [0u8; WINDOW];
-    let mut text = [0u8; 4096];
     let g = match gather(file, &mut window, 4) {
         Ok(g) => g,
         Err(error) => {
-            complain(rt, name, error);
+            program.complain(name, error);
             return;
         }
     };
-    let FileHead::Good {
-        edition,
-        dialect,
-        cipher,
-    } = trace_reader::read_file_head(front(&window, g.have))
-    else {
-        answer(rt, b"stop 0\n");
+    let Ok(head) = read_file_head(front(&window, g.have)) else {
+        program.answer(b"stop 0\n");
         return;
     };
-    let start = Progress {
-        cursor: trace_window::first(g.have, g.ended),
-        used: 0,
-        over: false,
-    };
-    let p = records(
-        rt,
-        file,
+    let mut replay = Replay {
+        program,
         name,
-        edition,
-        lab::fresh(dialect, cipher as u16),
-        start,
-        &mut window,
-        &mut text,
-    );
-    flushed(rt, p, &text);
+        edition: head.edition,
+        lab: Lab::new(head.dialect, u16::from(head.cipher)),
+        cursor: Cursor::first(g.have, g.ended),
+        window,
+        lines: Lines::new(),
+    };
+    let _ = replay.run(file);
+    let _ = replay.flush();
 }
 
 fn usage(to: &impl Print) {
     let _ = to.write_all(b"usage: smb3seal-replay [FILE]\n");
 }
 
-fn replay_file(rt: &HostRuntime, path: &[u8]) {
-    match open(rt, path) {
-        Ok(mut file) => replay(rt, &mut file, path),
-        Err(error) => complain(rt, path, error),
+fn replay_file(program: Program<'_>, path: &[u8]) {
+    match open(program.rt, path) {
+        Ok(mut file) => replay_bytes(program, &mut file, path),
+        Err(error) => program.complain(path, error),
     }
 }
 
 // The one argument: a file, or a word that is none.
-fn replay_argument(rt: &HostRuntime) {
-    let mut path = [0u8; 4096];
-    let n = match argument(rt, 1, &mut path) {
+fn replay_argument(program: Program<'_>) {
+    let mut room = [0u8; 4096];
+    let n = match argument(program.rt, 1, &mut room) {
         Ok(n) => n,
         Err(error) => {
-            complain(rt, b"FILE", error);
+            program.complain(b"FILE", error);
             return;
         }
     };
-    if program_text::asks_help(front(&path, n)) {
-        usage(&rt.stdout());
-        return;
+    let word = front(&room, n);
+    if asks_help(word) {
+        usage(&program.rt.stdout());
+    } else if asks_version(word) {
+        program.answer(b"smb3seal-replay 0.11.0\n");
+    } else {
+        replay_file(program, word);
     }
-    if program_text::asks_version(front(&path, n)) {
-        answer(rt, b"smb3seal-replay 0.11.0\n");
-        return;
-    }
-    replay_file(rt, front(&path, n));
 }
 
 // No argument at a terminal is a question, and no trace.
 fn main(rt: HostRuntime) {
+    let program = Program {
+        rt: &rt,
+        name: b"smb3seal-replay",
+    };
     if has_argument(&rt, 2) {
         usage(&rt.stderr());
-        return;
-    }
-    if has_argument(&rt, 1) {
-        replay_argument(&rt);
-        return;
-    }
-    if rt.stdin().is_terminal() {
+    } else if has_argument(&rt, 1) {
+        replay_argument(program);
+    } else if rt.stdin().is_terminal() {
         usage(&rt.stderr());
-        return;
+    } else {
+        replay_bytes(program, &mut rt.stdin(), b"standard input");
     }
-    replay(&rt, &mut rt.stdin(), b"standard input");
 }

@@ -7,12 +7,11 @@ mod output;
 
 ghost use Rattle.std.specs.Prelude.{◌≡◌, ltb};
 
-use output::{answer, complain, write_new};
-use program_files::{argument, gather, has_argument};
-use program_text::front;
+use output::write_new;
+use program_files::{Program, argument, gather, has_argument};
+use program_text::{Lines, asks_help, asks_version, front};
 use std::io;
 use std::io::Print;
-use trace_rescue::Rescuing;
 
 // One byte more than the program takes.
 const ROOM: usize = 65537;
@@ -24,42 +23,38 @@ fn is_long(n: usize) -> bool
 }
 
 // Of an input of at most 65,536 bytes no more come out, with at most 7,282 gaps (`enough-room`): an unreadable file head alone is refused.
-fn rescue(rt: &HostRuntime, input: &[u8], to: &[u8]) {
+// The program has no heap, so that these rooms are fixed.
+fn rescue(program: Program<'_>, input: &[u8], to: &[u8]) {
     let mut room = [0u8; 65536];
     let mut list = [0u64; 14564];
-    let Rescuing::Done { written, gaps } = trace_rescue::rescue(input, &mut room, &mut list) else {
-        answer(rt, b"stop 0\n");
+    let Ok(rescued) = trace_rescue::rescue(input, &mut room, &mut list) else {
+        program.answer(b"stop 0\n");
         return;
     };
-    let mut text = [0u8; 305844];
-    let n = program_text::gap_lines(&mut text, &list, gaps);
-    if write_new(rt, to, front(&room, written)) {
-        answer(rt, front(&text, n));
+    let mut lines: Lines<305844> = Lines::new();
+    lines.gap_lines(&list, rescued.gaps);
+    if write_new(program, to, front(&room, rescued.written)) {
+        program.answer(lines.put_so_far());
     }
 }
 
 // The input's first bytes: how many there are.
-fn read_input(rt: &HostRuntime, from: &[u8], input: &mut [u8]) -> io::Result<usize> {
-    let mut file = program_files::open(rt, from)?;
+fn read_input(program: Program<'_>, from: &[u8], input: &mut [u8]) -> io::Result<usize> {
+    let mut file = program_files::open(program.rt, from)?;
     let g = gather(&mut file, input, ROOM)?;
     Ok(g.have)
 }
 
 // All of the input is read before anything else is done: a read that fails makes no file.
-fn rescue_file(rt: &HostRuntime, from: &[u8], to: &[u8]) {
+fn rescue_file(program: Program<'_>, from: &[u8], to: &[u8]) {
     let mut input = [0u8; ROOM];
-    let have = match read_input(rt, from, &mut input) {
-        Ok(have) => have,
-        Err(error) => {
-            complain(rt, from, error);
-            return;
+    match read_input(program, from, &mut input) {
+        Ok(have) if is_long(have) => {
+            program.answer(b"long\n");
         }
-    };
-    if is_long(have) {
-        answer(rt, b"long\n");
-        return;
+        Ok(have) => rescue(program, front(&input, have), to),
+        Err(error) => program.complain(from, error),
     }
-    rescue(rt, front(&input, have), to);
 }
 
 fn usage(to: &impl Print) {
@@ -67,43 +62,46 @@ fn usage(to: &impl Print) {
 }
 
 // One argument that is no file, or too few of them.
-fn rescue_nothing(rt: &HostRuntime) {
-    let mut word = [0u8; 4096];
-    let n = argument(rt, 1, &mut word).unwrap_or(0);
-    if program_text::asks_help(front(&word, n)) {
-        usage(&rt.stdout());
-        return;
+fn rescue_nothing(program: Program<'_>) {
+    let mut room = [0u8; 4096];
+    let n = argument(program.rt, 1, &mut room).unwrap_or(0);
+    let word = front(&room, n);
+    if asks_help(word) {
+        usage(&program.rt.stdout());
+    } else if asks_version(word) {
+        program.answer(b"smb3seal-rescue 0.11.0\n");
+    } else {
+        usage(&program.rt.stderr());
     }
-    if program_text::asks_version(front(&word, n)) {
-        answer(rt, b"smb3seal-rescue 0.11.0\n");
-        return;
-    }
-    usage(&rt.stderr());
 }
 
 // An argument that names a file: how many bytes its name has. One that cannot be taken is said, under the name that the usage gives it.
-fn name(rt: &HostRuntime, i: usize, room: &mut [u8], called: &[u8]) -> Option<usize> {
-    match argument(rt, i, room) {
+fn name(program: Program<'_>, i: usize, room: &mut [u8], called: &[u8]) -> Option<usize> {
+    match argument(program.rt, i, room) {
         Ok(n) => Some(n),
         Err(error) => {
-            complain(rt, called, error);
+            program.complain(called, error);
             None
         }
     }
 }
 
 fn main(rt: HostRuntime) {
+    let program = Program {
+        rt: &rt,
+        name: b"smb3seal-rescue",
+    };
     if !has_argument(&rt, 2) || has_argument(&rt, 3) {
-        rescue_nothing(&rt);
+        rescue_nothing(program);
         return;
     }
     let mut from = [0u8; 4096];
-    let Some(n) = name(&rt, 1, &mut from, b"INPUT") else {
+    let Some(n) = name(program, 1, &mut from, b"INPUT") else {
         return;
     };
     let mut to = [0u8; 4096];
-    let Some(m) = name(&rt, 2, &mut to, b"OUTPUT") else {
+    let Some(m) = name(program, 2, &mut to, b"OUTPUT") else {
         return;
     };
-    rescue_file(&rt, front(&from, n), front(&to, m));
+    rescue_file(program, front(&from, n), front(&to, m));
 }

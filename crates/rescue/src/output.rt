@@ -1,17 +1,8 @@
 // What is said and written. A file that is made holds keys: nobody else may read it, at no time.
-use program_files::{NAME_TOO_LONG, create, create_private, fill, remove, rename};
-use program_text::front;
+use program_files::{NAME_TOO_LONG, Program, create, create_private, fill, remove, rename};
 use std::io;
 use std::random::RandomSource;
 use std::rt::Files;
-
-pub fn complain(rt: &HostRuntime, what: &[u8], error: io::Error) {
-    program_files::fail(&rt.stderr(), b"smb3seal-rescue", what, error);
-}
-
-pub fn answer(rt: &HostRuntime, text: &[u8]) -> bool {
-    program_files::show(&rt.stdout(), &rt.stderr(), b"smb3seal-rescue", text)
-}
 
 // How often another name is tried where one is taken.
 const TRIES: usize = 238328;
@@ -59,11 +50,11 @@ fn write_and_name<R: Files + RandomSource>(
 // The bytes go to a file in the same folder, which is made for its owner alone, and which then takes the name.
 fn write_beside<R: Files + RandomSource>(rt: &R, path: &[u8], bytes: &[u8]) -> io::Result<()> {
     let mut room = [0u8; 4096];
-    let n = program_text::beside(path, &mut room);
-    if n == room.len() {
-        return Err(io::Error::from_raw_os_error(NAME_TOO_LONG));
+    // a name that fills the room is as long as no path that the system takes
+    match program_text::beside(path, &mut room) {
+        Some(n) if n < room.len() => write_and_name(rt, &mut room[..n], path, bytes),
+        _ => Err(io::Error::from_raw_os_error(NAME_TOO_LONG)),
     }
-    write_and_name(rt, &mut room[..n], path, bytes)
 }
 
 // Makes a new file of these bytes. An empty file claims the name first, so that one that is taken is left as it is; where a later step fails,
@@ -79,11 +70,11 @@ fn make_new<R: Files + RandomSource>(rt: &R, path: &[u8], bytes: &[u8]) -> io::R
 }
 
 // Whether a new file was made of these bytes. If not, that is said.
-pub fn write_new(rt: &HostRuntime, path: &[u8], bytes: &[u8]) -> bool {
-    match make_new(rt, path, bytes) {
+pub fn write_new(program: Program<'_>, path: &[u8], bytes: &[u8]) -> bool {
+    match make_new(program.rt, path, bytes) {
         Ok(()) => true,
         Err(error) => {
-            complain(rt, path, error);
+            program.complain(path, error);
             false
         }
     }

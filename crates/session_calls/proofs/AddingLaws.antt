@@ -1,22 +1,23 @@
 -- Adding, a way out at a time: the numbers in their order, and the record out of the derived keys.
 -- Assumes nothing.
 use mathlib.Core.Path.{◌≡◌, refl, sym, ap, ◌∙◌}
-use mathlib.Core.Bool.{Bool, true, false, cond, not, ◌||◌}
-use mathlib.Core.List.{[], ◌∷◌}
+use mathlib.Core.Bool.{Bool, true, false, cond, ◌||◌}
+use mathlib.Core.List.{List}
+use Rattle.std.specs.Prelude.{Result, Ok, Err}
 use Prim.Native.Nat.{ℕ}
-use lib.Dec.{eqb}
-use lib.ListN.{length, replicate}
+use lib.ListN.{replicate}
 use Rattle.octets.specs.Blocks.{zero_padded}
 use Rattle.protocol.specs.Bytes.{Bytes}
-use Rattle.protocol.specs.Answer.{Answer, done, answer_number, when_done, first_of, first_else}
+use Rattle.protocol.specs.Answer.{Answer, done, answer_number, when_done, Test, first_of}
 use Rattle.protocol.specs.Connection.{is_wide, cipher_key_bytes}
 use Rattle.protocol.specs.Keys as rules
 use Rattle.protocol.specs.SessionTable as table
-use Rattle.protocol.specs.Refusals.{id_zero, id_taken, table_full}
-use Rattle.protocol.specs.Calls.{lines, verdict, material_tests, add_tests}
+use Rattle.protocol.specs.Calls.{add_tests}
 use Rattle.protocol.specs.Suite.{kdf}
-use Rattle.protocol.proofs.CallLaws.{number-lines}
-use Rattle.protocol.proofs.Judging.{refuses, passes, judge-passed}
+use Rattle.protocol.proofs.Judging.{judge-passed}
+use Rattle.answer.specs.declared.refusal.Refusal.{Refusal}
+use Rattle.answer.specs.Reading.{number_of, number_in}
+use Rattle.answer.proofs.Results.{passed, refuses_with}
 use Rattle.connection.specs.Reading.{bit_of}
 use Rattle.derived_keys.specs.declared.Keys.{Keys}
 use Rattle.derived_keys.specs.Reading as keys
@@ -68,36 +69,33 @@ module _ (a : Adding) (wide : Bool) (k : rules.Keys) where
   held-stored true = λ i. with (zero-stored wide i) (zero-stored wide i)
   held-stored false = refl
 
--- ---- the numbers, and the ways out
+-- ---- the ways out: r is what the tests say
 
-module _ (a : Adding) (chain material : Bytes) (taken room : Bool) (old : Session) (line20 line18 n : ℕ)
-    (e20 : line20 ≡ first_of (id_zero a.id ∷ id_taken taken ∷ table_full room ∷ []))
-    (e18 : line18 ≡ first_else (material_tests a.dialect a.cipher material) line20) (e40 : n ≡ cond (not (eqb (length chain) 64)) 40 line18) where
+module _ (a : Adding) (chain material : Bytes) (taken room : Bool) (r : Result (Unit {0}) Refusal)
+    (says : number_in r ≡ first_of (add_tests (adding_of a chain material) taken room)) (old : Session) where
   abbrev x : table.Adding
   x = adding_of a chain material
 
-  number_is : n ≡ first_of (add_tests x taken room)
-  number_is = e40 ∙ rw (e18, e20)
+  abbrev tests : List Test
+  tests = add_tests x taken room
 
-  -- the answer, by the number
-  answered : n ≡ answer_number (verdict (lines (add_tests x taken room)))
-  answered = number_is ∙ sym (number-lines (add_tests x taken room) 0)
+  pub add-refused : (why : Refusal) → r ≡ Err why → AddsWith x taken room old (number_of why) old
+  add-refused why o =
+      let q = refuses_with tests refl r why (done 0) says o in
+      record {
+        number = sym (ap answer_number q);
+        session = sym (ap (λ (v : Answer). when_done v (λ k. stored (table.new_record kdf x)) old) q);
+      }
 
-  pub add-refused : (n ≡ 0 → ⊥) → AddsWith x taken room old n old
-  add-refused h =
-      let q = refuses (add_tests x taken room) (done 0) n number_is h in
-      record { number = answered; session = sym (ap (λ (v : Answer). when_done v (λ k. stored (table.new_record kdf x)) old) q) }
+  made : record_with a (keys.stored (rules.derived_keys kdf a.dialect a.cipher chain material)) ≡ stored (table.new_record kdf x)
+  unfolding record_with
+  made = held-stored a (is_wide a.dialect a.cipher) (rules.derived_keys kdf a.dialect a.cipher chain material) (a.guest || a.anonymous)
 
-  module _ (z : n ≡ 0) where
-    made : record_with a (keys.stored (rules.derived_keys kdf a.dialect a.cipher chain material)) ≡ stored (table.new_record kdf x)
-    unfolding record_with
-    made = held-stored a (is_wide a.dialect a.cipher) (rules.derived_keys kdf a.dialect a.cipher chain material) (a.guest || a.anonymous)
-
-    pub add_done : (k : Keys) (s : Session) → k ≡ keys.stored (rules.derived_keys kdf a.dialect a.cipher chain material) → s ≡ record_with a k
-        → AddsWith x taken room old n s
-    add_done k s ek es =
-        let q = judge-passed (add_tests x taken room) (done 0) (passes (add_tests x taken room) n refl number_is z) in
-        record {
-          number = answered;
-          session = es ∙ ap (record_with a) ek ∙ made ∙ sym (ap (λ (v : Answer). when_done v (λ k. stored (table.new_record kdf x)) old) q);
-        }
+  pub add_done : (y : Unit {0}) → r ≡ Ok y → (k : Keys) (s : Session) → k ≡ keys.stored (rules.derived_keys kdf a.dialect a.cipher chain material)
+      → s ≡ record_with a k → AddsWith x taken room old 0 s
+  add_done y o k s ek es =
+      let q = judge-passed tests (done 0) (passed tests refl r y says o) in
+      record {
+        number = sym (ap answer_number q);
+        session = es ∙ ap (record_with a) ek ∙ made ∙ sym (ap (λ (v : Answer). when_done v (λ k. stored (table.new_record kdf x)) old) q);
+      }

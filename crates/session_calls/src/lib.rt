@@ -1,78 +1,84 @@
-// What sealing, opening and adding do with one session record by value (RULES 10).
+// What sealing, opening and adding do with one session record (RULES 10).
 #![tactic(auto)]
 
-ghost use Rattle.std.specs.Prelude.{◌≡◌};
-ghost use Rattle.answer.specs.Reading.{answer_of};
-ghost use Rattle.connection.specs.Reading.{flag, connection_of};
+ghost use Rattle.std.specs.Prelude.{◌≡◌, ◌++◌, IfOk};
+ghost use Rattle.protocol.specs.Answer.{first_of};
+ghost use Rattle.protocol.specs.TransformHeader.{header_of, session_id_of};
+ghost use Rattle.protocol.specs.Calls.{message_tests, header_tests, record_tests, add_tests};
+ghost use Rattle.answer.specs.Reading.{number_in, answer_of};
+ghost use Rattle.connection.specs.Reading.{connection_of};
 ghost use Rattle.session_record.specs.Reading.{session_of};
 ghost use Rattle.session_record.specs.Clauses.{SealsWith, OpensWith};
-ghost use Rattle.session_record.specs.Adds.{adding_of, AddsWith};
+ghost use Rattle.session_record.specs.Adds.{adding_of, made_or, AddsWith};
+ghost use Rattle.session_record.specs.declared.Session as code;
 
-use answer::{Answer, refuse};
+use answer::{Answer, Refusal, refuse};
 use connection::Connection;
-use session_record::{Adding, Changed, Session};
+use session_record::{Adding, Session, place_tests, record_tests};
+
+// 1, 2, 3, 6, 7, 8, 35: of a seal, before the walk.
+fn lines_before(s: &Session, c: Connection, message: &[u8]) -> Result<(), Refusal>
+    ensures { number_in result ≡ first_of (message_tests (connection_of c) message.now ++ record_tests (connection_of c) (session_of s.now)) }
+{
+    refusals::message_tests(c, message)?;
+    record_tests(s, c)
+}
 
 // Seals the message in place: 1, 2, 3, 6, 7, 8, 35, 11 to 16, 17. Refused, the message is as it was.
-pub fn seal_record(s: Session, c: Connection, id: u64, message: &mut [u8]) -> Answer
-    ensures { SealsWith (session_of s) (connection_of c) id message.old message.new (answer_of result) }
+pub fn seal_record(s: &Session, c: Connection, id: u64, message: &mut [u8]) -> Answer
+    ensures { SealsWith (session_of s.now) (connection_of c) id message.old message.new (answer_of result) }
 {
-    let role = c.role;
-    let line6 = session_record::lines::record_number(s, c);
-    let first = refusals::message_number(c, message, line6);
-    if first != 0 {
-        return Answer::Refused(first);
-    }
-    let bytes = session_record::key_bytes(s);
-    let key = session_record::sealing_key(s, role);
-    let sealed = transform::seal_under(c, &key[..bytes], s.counter, id, message);
-    let out = sealed.answer;
-    out
+    lines_before(s, c, message)?;
+    let mut counter = s.counter;
+    transform::seal_under(c, s.sealing_key(c.role()), id, &mut counter, message)
+}
+
+// 1 to 5, 29, 6, 7, 8, 35: of an open, before the tag. What passes has a header, which names this session.
+fn open_tests(s: &Session, c: Connection, message: &[u8]) -> Result<u64, Refusal>
+    ensures number { number_in result ≡ first_of ((message_tests (connection_of c) message.now ++ header_tests (connection_of c) (header_of message.now)) ++ record_tests (connection_of c) (session_of s.now)) }
+    ensures named { IfOk result (λ id. id ≡ session_id_of message.now) }
+{
+    let h = refusals::opening_tests(c, message)?;
+    record_tests(s, c)?;
+    Ok(h.session_id)
 }
 
 // Opens the message in place: 1 to 5, 29, 6, 7, 8, 35, 9 to 16. Refused, the message is as it was.
-pub fn open_record(s: Session, c: Connection, message: &mut [u8]) -> Answer
-    ensures { OpensWith (session_of s) (connection_of c) message.old message.new (answer_of result) }
+pub fn open_record(s: &Session, c: Connection, message: &mut [u8]) -> Answer
+    ensures { OpensWith (session_of s.now) (connection_of c) message.old message.new (answer_of result) }
 {
-    let role = c.role;
-    let h = transform_header::read_header(message);
-    let line6 = session_record::lines::record_number(s, c);
-    let line4 = refusals::header_number(c, h, line6);
-    let first = refusals::message_number(c, message, line4);
-    if first != 0 {
-        return Answer::Refused(first);
-    }
-    let bytes = session_record::key_bytes(s);
-    let key = session_record::opening_key(s, role);
-    transform::open_under(c, &key[..bytes], h.session_id, message)
+    let id = open_tests(s, c, message)?;
+    transform::open_under(c, s.opening_key(c.role()), id, message)
 }
 
-// Adds: 40, 18 to 22. `there` is the record of the id, `old` the one at the first free place, which `room` says there is.
-pub fn add_record(
+// 40, 18 to 22: of adding.
+fn add_tests(
     a: Adding,
-    there: Session,
-    old: Session,
+    taken: bool,
     room: bool,
     material: &[u8],
     chain: &[u8],
-) -> Changed
-    ensures { AddsWith (adding_of a chain.now material.now) (flag there.used) room old result.number result.session }
+) -> Result<(), Refusal>
+    ensures { number_in result ≡ first_of (add_tests (adding_of a chain.now material.now) taken room) }
 {
-    let taken = there.used != 0;
-    let line20 = session_record::lines::place_number(a.id, taken, room);
-    let line18 = key_refusals::material_number(a.dialect, a.cipher, material, line20);
-    let n = refuse(40, !(chain.len() == 64), line18);
-    if n != 0 {
-        return Changed {
-            number: n,
-            session: old,
-        };
-    }
-    let s = session_record::new::fresh(
+    refuse(chain.len() != 64, Refusal::BadLength)?;
+    key_refusals::material_tests(a.dialect, a.cipher, material)?;
+    place_tests(a.id, taken, room)
+}
+
+// Adds: 40, 18 to 22. Whether the id is taken, and whether there is a free place.
+pub fn add_record(
+    a: Adding,
+    taken: bool,
+    room: bool,
+    material: &[u8],
+    chain: &[u8],
+) -> Result<Session, Refusal>
+    ensures { (old : code.Session) → AddsWith (adding_of a chain.now material.now) taken room old (number_in result) (made_or old result) }
+{
+    add_tests(a, taken, room, material, chain)?;
+    Ok(session_record::fresh(
         a,
         derived_keys::derived(a.dialect, a.cipher, chain, material),
-    );
-    Changed {
-        number: n,
-        session: s,
-    }
+    ))
 }

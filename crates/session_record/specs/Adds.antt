@@ -1,12 +1,13 @@
 -- Helper definitions of adding: what it does with the record of the id, if there is one, and with the one at the first free place.
 -- Assumes nothing.
-use Rattle.std.specs.Prelude.{◌≡◌, Bool, cond, ◌||◌, ℕ, replicate}
+use Rattle.std.specs.Prelude.{◌≡◌, Bool, cond, ◌||◌, ℕ, replicate, Result, Ok, Err}
 use Rattle.protocol.specs.Bytes.{Bytes}
 use Rattle.protocol.specs.Answer.{answer_number, when_done}
 use Rattle.protocol.specs.Connection.{is_wide}
 use Rattle.protocol.specs.SessionTable as table
 use Rattle.protocol.specs.Calls.{lines, verdict, add_tests}
 use Rattle.protocol.specs.Suite.{kdf}
+use Rattle.answer.specs.declared.refusal.Refusal.{Refusal}
 use Rattle.connection.specs.declared.Connection.{Connection}
 use Rattle.connection.specs.Reading.{flag, bit_of}
 use Rattle.derived_keys.specs.declared.Keys.{Keys}
@@ -39,6 +40,11 @@ record_with a k =
       wide = bit_of (is_wide a.dialect a.cipher);
       spare = replicate 4 0;
     }
+
+-- the record that adding made, or the one that stood at its place
+abbrev pub made_or : Session → Result Session Refusal → Session
+made_or old (Ok new) = new
+made_or old (Err why) = old
 
 -- adding, where old stands at the first free place: the number is n, and new stands there afterwards, byte for byte
 pub record AddsWith (a : table.Adding) (taken room : Bool) (old : Session) (n : ℕ) (new : Session) : Type 0 where

@@ -1,6 +1,6 @@
 -- What the calls with the session table do with the one record that lookup took. A primed name is the value afterwards.
 -- Assumes nothing.
-use Rattle.std.specs.Prelude.{◌≡◌, cond, ℕ}
+use Rattle.std.specs.Prelude.{◌≡◌, ℕ}
 use Rattle.protocol.specs.Bytes.{Bytes}
 use Rattle.protocol.specs.Answer.{Answer, when_done}
 use Rattle.protocol.specs.Connection.{Connection}
@@ -9,10 +9,6 @@ use Rattle.protocol.specs.Transform.{opened_to}
 use Rattle.protocol.specs.Calls.{verdict, seal_tests, sealed_with, open_tests, plaintext}
 use Rattle.protocol.specs.Suite.{suite}
 use Rattle.transform_header.specs.Reading.{header_in}
-use Rattle.connection.specs.Reading.{flag}
-use Rattle.session_record.specs.declared.Session as code
-use Rattle.session_record.specs.declared.Changed.{Changed}
-use Rattle.session_record.specs.Reading.{free}
 
 -- sealing the message m for the session id with the record s: the answer is a
 pub record SealsWith (s : Session) (c : Connection) (id : ℕ) (m m' : Bytes) (a : Answer) : Type 0 where
@@ -31,7 +27,3 @@ pub record OpensWith (s : Session) (c : Connection) (m m' : Bytes) (a : Answer) 
 -- the session that a message names, 0 where it is too short for a header
 abbrev pub named_id : Bytes → ℕ
 named_id m = (header_in m).session_id
-
--- removing the record s
-unfoldable pub removed_of : code.Session → Changed
-removed_of s = record { number = cond (flag s.used) 0 6; session = free }

@@ -1,32 +1,31 @@
-// Lines of the table of numbers about one record: the number of the first that applies, else what the later lines say.
+// The tests of one record, in the order of the table of numbers.
 ghost use Rattle.std.specs.Prelude.{◌≡◌, [], ◌∷◌};
 ghost use Rattle.protocol.specs.Answer.{first_of};
 ghost use Rattle.protocol.specs.Refusals.{id_zero, id_taken, table_full};
 ghost use Rattle.protocol.specs.Calls.{record_tests};
+ghost use Rattle.answer.specs.Reading.{number_in};
 ghost use Rattle.connection.specs.Reading.{connection_of};
 ghost use Rattle.session_record.specs.Reading.{session_of};
 
 use crate::Session;
-use answer::refuse;
+use answer::{Refusal, refuse};
 use connection::Connection;
 
 // 6, 7, 8, 35.
-pub fn record_number(s: Session, c: Connection) -> u32
-    ensures { result ≡ first_of (record_tests (connection_of c) (session_of s)) }
+pub fn record_tests(s: &Session, c: Connection) -> Result<(), Refusal>
+    ensures { number_in result ≡ first_of (record_tests (connection_of c) (session_of s.now)) }
 {
-    let used = connection::cipher_key_bytes(connection::uses_wide(c));
-    let own = connection::cipher_key_bytes(s.wide != 0);
-    let line35 = refuse(35, !(own == used), 0);
-    let line8 = refuse(8, (s.guest != 0) | (s.anonymous != 0), line35);
-    let line7 = refuse(7, c.constrained != 0, line8);
-    refuse(6, !(s.used != 0), line7)
+    refuse(s.used == 0, Refusal::OtherSession)?;
+    refuse(c.constrained != 0, Refusal::Constrained)?;
+    refuse((s.guest != 0) | (s.anonymous != 0), Refusal::Guest)?;
+    refuse(s.key_size() != c.key_size(), Refusal::OtherKeySize)
 }
 
 // 20, 21, 22.
-pub fn place_number(id: u64, taken: bool, room: bool) -> u32
-    ensures { result ≡ first_of (id_zero id ∷ id_taken taken ∷ table_full room ∷ []) }
+pub fn place_tests(id: u64, taken: bool, room: bool) -> Result<(), Refusal>
+    ensures { number_in result ≡ first_of (id_zero id ∷ id_taken taken ∷ table_full room ∷ []) }
 {
-    let line22 = refuse(22, !room, 0);
-    let line21 = refuse(21, taken, line22);
-    refuse(20, id == 0, line21)
+    refuse(id == 0, Refusal::IdZero)?;
+    refuse(taken, Refusal::IdTaken)?;
+    refuse(!room, Refusal::TableFull)
 }

@@ -1,32 +1,45 @@
--- A search, turn by turn.
+-- The place that a search of the library finds is the place of the rules.
 -- Assumes nothing.
-use mathlib.Core.Path.{◌≡◌, ◌∙◌, ap}
-use mathlib.Core.Bool.{Bool, true, false, cond}
-use mathlib.Core.List.{List}
-use Prim.Native.Nat.{ℕ, suc, ◌+◌, ◌<◌}
-use native.Mathlib.Numerals.{add-one}
-use native.Mathlib.Omega.{arith}
-use lib.ListN.{length, drop, get_or}
-use lib.Seq.{drop-cons, drop-length}
+use Rattle.std.proofs.Common.{◌≡◌, refl, ap, ◌∙◌, Bool, true, false, cond, List, ℕ, suc, ◌+◌, ◌≤◌, nat_lt, length, get_or, arith}
+use borrow.Author.Tests.{ltb-false}
+use Rattle.std.specs.Prelude.{Option, Some, None, position}
+use Rattle.std.specs.List.{position_or_len}
+use Rattle.std.specs.Option.{is_some}
+use Rattle.std.proofs.lemmas.List.Recursion.{is_position_or_len}
+use Rattle.std.proofs.lemmas.List.Sums.{prefix_len-le-length}
+use Rattle.std.proofs.lemmas.List.Quantifiers.{position-Some}
 use Rattle.session_record.specs.declared.Session.{Session}
-use Rattle.session_table.specs.Place.{first}
+use Rattle.session_record.specs.Reading.{free}
+use Rattle.session_table.specs.Place.{first, place_in}
 
--- of a search that has come to i; d stands past the end
-module _ (p : Session → Bool) (ys : List Session) (d : Session) (i : ℕ) (far : i + first p (drop i ys) ≡ first p ys) where
-  pub first-here : i < length ys → p (get_or ys i d) ≡ true → i ≡ first p ys
-  unfolding first
-  first-here l e =
-      let z : first p (drop i ys) ≡ 0 = ap (first p) (drop-cons ys i d l) ∙ ap (λ (t : Bool). cond t 0 (suc (first p (drop (suc i) ys)))) e in
-      omega arith
+one_more : (n : ℕ) → suc n ≡ 1 + n
+one_more n = omega arith
 
-  pub first-later : i < length ys → p (get_or ys i d) ≡ false → (i + 1) + first p (drop (i + 1) ys) ≡ first p ys
+module _ (p : Session → Bool) (ys : List Session) where
+  first_is : first p ys ≡ position_or_len p ys
   unfolding first
-  first-later l e =
-      let z : first p (drop i ys) ≡ suc (first p (drop (suc i) ys)) = ap (first p) (drop-cons ys i d l) ∙ ap (λ (t : Bool). cond t 0 (suc (first p (drop (suc i) ys)))) e in
-      rw (add-one i) (omega arith)
+  first_is = is_position_or_len (first p) p refl (λ x xs. ap (cond (p x) 0) (one_more (first p xs))) ys
 
-  pub first-none : i ≡ length ys → i ≡ first p ys
-  unfolding first
-  first-none e =
-      let z : first p (drop i ys) ≡ 0 = ap (λ (k : ℕ). first p (drop k ys)) e ∙ ap (first p) (drop-length ys) in
-      omega arith
+  within : first p ys ≤ length ys
+  within = rw first_is (prefix_len-le-length _ ys)
+
+  pub position_is : position p ys ≡ cond (nat_lt (first p ys) (length ys)) (Some (first p ys)) None
+  position_is = rw first_is refl
+
+  -- and whether there is one
+  pub found : is_some (position p ys) ≡ nat_lt (first p ys) (length ys)
+  found = ap is_some position_is ∙ go (nat_lt (first p ys) (length ys))
+    where
+      go : (b : Bool) → is_some (cond b (Some (first p ys)) None) ≡ b
+      go true = refl
+      go false = refl
+
+  pub place_is : place_in ys (position p ys) ≡ first p ys
+  place_is = ap (place_in ys) position_is ∙ go (nat_lt (first p ys) (length ys)) refl
+    where
+      go : (b : Bool) → nat_lt (first p ys) (length ys) ≡ b → place_in ys (cond b (Some (first p ys)) None) ≡ first p ys
+      go true e = refl
+      go false e = let w = within in omega (arith, ltb-false (first p ys) (length ys) e)
+
+  pub wanted-there : (i : ℕ) → position p ys ≡ Some i → p (get_or ys i free) ≡ true
+  wanted-there i e = (position-Some p ys i free e).1

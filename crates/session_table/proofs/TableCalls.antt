@@ -2,15 +2,17 @@
 -- table; the table of the rules follows from it (leaves_table).
 -- Assumes nothing.
 use mathlib.Core.Path.{◌≡◌, refl, sym, ap, subst, ◌∙◌}
-use mathlib.Core.Bool.{Bool, true, false, cond, not, ◌&&◌}
+use mathlib.Core.Bool.{Bool, true, false, cond, not}
 use mathlib.Core.List.{List, [], ◌∷◌, ◌++◌}
-use Prim.Native.Nat.{ℕ, suc, ◌<◌, ◌^◌}
+use Prim.Native.Nat.{ℕ, ◌<◌, ◌^◌}
 use native.Mathlib.Omega.{arith}
 use borrow.Author.Tests.{leb-false}
-use lib.Dec.{eqb, leb, ltb}
+use lib.Dec.{eqb, leb}
 use lib.ListN.{length, get_or, set}
+use Rattle.std.specs.Prelude.{Some, None, Result, position}
+use Rattle.std.specs.Option.{is_some}
 use Rattle.protocol.specs.Bytes.{Bytes}
-use Rattle.protocol.specs.Answer.{Answer, done, refused, answer_number, when_done, Test, refuse◌when◌, judge_after}
+use Rattle.protocol.specs.Answer.{Answer, done, refused, answer_number, when_done, refuse◌when◌, judge_after}
 use Rattle.protocol.specs.Connection.{Connection, encrypts, last_counter}
 use Rattle.protocol.specs.TransformHeader.{inner, session_id_of, TransformHeader}
 use Rattle.protocol.specs.Compound.{walk}
@@ -20,27 +22,28 @@ use Rattle.protocol.specs.Transform.{opened_to}
 use Rattle.protocol.specs.Calls.{Call, derivation, folding, fold_beginning, fold_piece, fold_finishing, sealing_under, opening_under, signing_under, verifying_under}
 use Rattle.protocol.specs.Calls.{adding, removing, stepping, sealing, opening}
 use Rattle.protocol.specs.Calls.{sign_beginning, sign_piece, sign_finishing, verify_finishing}
-use Rattle.protocol.specs.Calls.{Lent, lines}
+use Rattle.protocol.specs.Calls.{lines}
 use Rattle.protocol.specs.Calls.{sent_by, only_table, message_and_table, message_tests, record_tests, add_tests, seal_tests, sealed_with, open_tests, plaintext, verdict}
 use Rattle.protocol.specs.Calls.{tests, effect, answer, left}
 use Rattle.protocol.specs.Contract.{Makes, Returns}
 use Rattle.protocol.specs.Suite.{suite, kdf}
 use Rattle.protocol.proofs.AnswerLaws.{when_part, when_two}
-use Rattle.protocol.proofs.CallLaws.{makes_when, lines-refused, lines-done, number-lines}
+use Rattle.protocol.proofs.CallLaws.{makes_when}
 use Rattle.protocol.proofs.Judging.{judge-done}
 use Rattle.transform_header.proofs.HeaderIn.{header-there}
-use Rattle.connection.specs.Reading.{flag}
+use Rattle.answer.specs.declared.refusal.Refusal.{Refusal}
+use Rattle.answer.specs.Reading.{number_in}
 use Rattle.session_record.specs.declared.Session.{Session}
 use Rattle.session_record.specs.declared.Adding.{Adding}
-use Rattle.session_record.specs.declared.Changed.{Changed}
 use Rattle.session_record.specs.Reading.{free, is_wanted, session_of, stored, stepped}
 use Rattle.session_record.proofs.StoredLaws.{free_read, new_read}
-use Rattle.session_record.specs.Adds.{adding_of, AddsWith}
-use Rattle.session_record.specs.Clauses.{SealsWith, counter_moves, OpensWith, named_id, removed_of}
-use Rattle.session_table.specs.Place.{first, place_of, free_place}
+use Rattle.session_record.specs.Adds.{adding_of, made_or, AddsWith}
+use Rattle.session_record.specs.Clauses.{SealsWith, counter_moves, OpensWith, named_id}
+use Rattle.session_table.specs.Place.{place_in, place_of, free_place}
 use Rattle.session_table.specs.Reading.{table_of}
 use Rattle.session_table.specs.Exactly.{counted_up, changed, Exactly}
-use Rattle.session_table.proofs.TableLink.{reads, changes, fills, has_free_lem, keeps}
+use Rattle.session_table.proofs.TableLink.{reads, changes, fills, has_session, has_free_lem, keeps}
+use Rattle.session_table.proofs.PlaceLaws.{found, place_is}
 use Rattle.session_table.proofs.StepLaws.{step-none, step-one, steps_alike}
 
 -- ---- the table of the rules, from the table of the code
@@ -86,97 +89,89 @@ taken ys id i s e e' = ap session_of (e' ∙ ap (λ (k : ℕ). get_or ys k free)
 
 -- ---- removing
 
--- a session that is not there: nothing is put
-absent : (id : ℕ) (ys : List Session) (new : Session) → flag (get_or ys (place_of id ys) free).used ≡ false → set ys (place_of id ys) new ≡ ys
-unfolding first
-absent id [] new u = refl
-absent id (x ∷ xs) new u = go (is_wanted true id x) refl u (absent id xs new)
-  where
-    go : (b : Bool) → is_wanted true id x ≡ b → flag (get_or (x ∷ xs) (cond b 0 (suc (place_of id xs))) free).used ≡ false
-        → (flag (get_or xs (place_of id xs) free).used ≡ false → set xs (place_of id xs) new ≡ xs)
-        → set (x ∷ xs) (cond b 0 (suc (place_of id xs))) new ≡ x ∷ xs
-    go true e u below = absurd (used_false (flag x.used) (eqb x.id id) u e)
-      where
-        used_false : (p q : Bool) → p ≡ false → (p && q) ≡ true → ⊥
-        used_false true q z e = absurd (let z' : ◌≡◌ {A = ℕ} 0 1 = cc in omega arith)
-        used_false false q z e = absurd (let z' : ◌≡◌ {A = ℕ} 0 1 = cc in omega arith)
-    go false e u below = ap (λ (r : List Session). x ∷ r) (below u)
-
-module _ (ys zs : List Session) (id i : ℕ) (s : Session) (r : Changed) where
+module _ (ys zs : List Session) (id : ℕ) where
   abbrev is_there : Bool
   is_there = (protocol.record_of id (table_of ys)).used
 
-  abbrev line6 : List Test
-  line6 = other_session is_there ∷ []
+  abbrev answer_if : Bool → Answer
+  answer_if b = verdict (lines (other_session b ∷ []))
 
-  pub removed_says : i ≡ place_of id ys → s ≡ get_or ys i free → r ≡ removed_of s → zs ≡ set ys i r.session
-      → Returns (removing id) (only_table (table_of ys)) r.number (only_table (table_of zs)) × Exactly (removing id) (only_table (table_of ys)) ys zs
-  unfolding tests effect changed removed_of
-  removed_says e e' er ez = (record { number = number; leaves = leaves }, exactly)
+  abbrev call : Call
+  call = removing id
+
+  -- where the search says b
+  removed_if : (b : Bool) → is_some (position (is_wanted true id) ys) ≡ b → zs ≡ cond b (set ys (place_of id ys) free) ys
+      → Returns call (only_table (table_of ys)) (cond b 0 6) (only_table (table_of zs)) × Exactly call (only_table (table_of ys)) ys zs
+  unfolding tests effect changed
+  removed_if b u ez = (record { number = number b ∙ sym (ap answer_number answered); leaves = leaves }, exactly)
     where
-      there : flag s.used ≡ is_there
-      there = ap (λ (x : protocol.Session). x.used) (taken ys id i s e e')
+      answered : answer_if is_there ≡ answer_if b
+      answered = ap answer_if (has_session id ys ∙ sym (found (is_wanted true id) ys) ∙ u)
 
-      lined : cond is_there 0 6 ≡ answer_number (verdict (lines line6))
-      lined = go is_there
-        where
-          go : (b : Bool) → cond b 0 6 ≡ answer_number (verdict (lines (other_session b ∷ [])))
-          go true = refl
-          go false = refl
+      number : (d : Bool) → cond d 0 6 ≡ answer_number (answer_if d)
+      number true = refl
+      number false = refl
 
-      number : r.number ≡ answer_number (verdict (lines line6))
-      number = ap (λ (x : Changed). x.number) er ∙ ap (λ (b : Bool). cond b 0 6) there ∙ lined
+      placed : (d : Bool) → cond d (set ys (place_of id ys) free) ys ≡ when_done (answer_if d) (λ k. set ys (place_of id ys) free) ys
+      placed true = refl
+      placed false = refl
 
-      placed : zs ≡ set ys (place_of id ys) free
-      placed = ez ∙ (λ j. set ys (e j) (er j).session)
+      exactly : Exactly call (only_table (table_of ys)) ys zs
+      exactly = ez ∙ placed b ∙ sym (ap (λ (v : Answer). when_done v (λ k. set ys (place_of id ys) free) ys) answered)
 
-      exactly : Exactly (removing id) (only_table (table_of ys)) ys zs
-      exactly = go is_there refl
-        where
-          go : (b : Bool) → is_there ≡ b → zs ≡ when_done (verdict (lines (other_session b ∷ []))) (λ k. set ys (place_of id ys) free) ys
-          go true u = placed
-          go false u =
-              placed ∙ absent id ys free (sym (ap (λ (x : Session). flag x.used) (e' ∙ ap (λ (k : ℕ). get_or ys k free) e)) ∙ there ∙ u)
-
-      leaves : only_table (table_of zs) ≡ left suite (removing id) (only_table (table_of ys))
+      leaves : only_table (table_of zs) ≡ left suite call (only_table (table_of ys))
       leaves =
-          ap only_table (leaves_table (removing id) [] ys zs exactly)
-          ∙ when_part only_table (verdict (lines line6)) (protocol.remove_record id (table_of ys)) (table_of ys)
+          ap only_table (leaves_table call [] ys zs exactly)
+          ∙ when_part only_table (answer_if is_there) (protocol.remove_record id (table_of ys)) (table_of ys)
+
+  pub removed-none : position (is_wanted true id) ys ≡ None → zs ≡ ys
+      → Returns call (only_table (table_of ys)) 6 (only_table (table_of zs)) × Exactly call (only_table (table_of ys)) ys zs
+  removed-none e ez = removed_if false (ap is_some e) ez
+
+  pub removed_there : (i : ℕ) → position (is_wanted true id) ys ≡ Some i → zs ≡ set ys i free
+      → Returns call (only_table (table_of ys)) 0 (only_table (table_of zs)) × Exactly call (only_table (table_of ys)) ys zs
+  removed_there i e ez =
+      let at : i ≡ place_of id ys = sym (ap (place_in ys) e) ∙ place_is (is_wanted true id) ys in
+      removed_if true (ap is_some e) (ez ∙ ap (λ (k : ℕ). set ys k free) at)
 
 -- ---- adding
 
-module _ (ys zs : List Session) (x : Adding) (material chain : Bytes) (i f : ℕ) (there old : Session) (r : Changed) where
+module _ (ys : List Session) (x : Adding) (material chain : Bytes) (has room : Bool) (r : Result Session Refusal) where
   abbrev asked : protocol.Adding
   asked = adding_of x chain material
 
   abbrev added : Bool → Bool → Answer
-  added taken room = verdict (lines (add_tests asked taken room))
+  added t free = verdict (lines (add_tests asked t free))
 
-  pub added_says : i ≡ place_of x.id ys → there ≡ get_or ys i free → f ≡ free_place ys → old ≡ get_or ys f free
-      → AddsWith asked (flag there.used) (ltb f (length ys)) old r.number r.session → zs ≡ set ys f r.session
-      → Returns (adding asked) (only_table (table_of ys)) r.number (only_table (table_of zs)) × Exactly (adding asked) (only_table (table_of ys)) ys zs
+  abbrev place : ℕ
+  place = free_place ys
+
+  pub added_says : (zs : List Session) → has ≡ is_some (position (is_wanted true x.id) ys) → room ≡ is_some (position (is_wanted false 0) ys)
+      → ((old : Session) → AddsWith asked has room old (number_in r) (made_or old r)) → zs ≡ set ys place (made_or (get_or ys place free) r)
+      → Returns (adding asked) (only_table (table_of ys)) (number_in r) (only_table (table_of zs)) × Exactly (adding asked) (only_table (table_of ys)) ys zs
   unfolding tests effect changed
-  added_says e e' ef eo o ez = (record { number = o.number ∙ ap answer_number same; leaves = leaves }, exactly)
+  added_says zs eh er adds ez = (record { number = o.number ∙ ap answer_number same; leaves = leaves }, exactly)
     where
-      used : flag there.used ≡ (protocol.record_of x.id (table_of ys)).used
-      used = ap (λ (s : protocol.Session). s.used) (taken ys x.id i there e e')
+      o : AddsWith asked has room (get_or ys place free) (number_in r) (made_or (get_or ys place free) r)
+      o = adds (get_or ys place free)
 
-      room : ltb f (length ys) ≡ protocol.has_free (table_of ys)
-      room = ap (λ (k : ℕ). ltb k (length ys)) ef ∙ sym (has_free_lem ys)
+      used : has ≡ (protocol.record_of x.id (table_of ys)).used
+      used = eh ∙ found (is_wanted true x.id) ys ∙ sym (has_session x.id ys)
+
+      roomy : room ≡ protocol.has_free (table_of ys)
+      roomy = er ∙ found (is_wanted false 0) ys ∙ sym (has_free_lem ys)
 
       answered : Answer
       answered = added (protocol.record_of x.id (table_of ys)).used (protocol.has_free (table_of ys))
 
-      same : added (flag there.used) (ltb f (length ys)) ≡ answered
-      same = λ j. added (used j) (room j)
+      same : added has room ≡ answered
+      same = λ j. added (used j) (roomy j)
 
-      new : r.session ≡ when_done answered (λ k. stored (protocol.new_record kdf asked)) (get_or ys f free)
-      new = o.session ∙ (λ j. when_done (same j) (λ k. stored (protocol.new_record kdf asked)) (eo j))
+      new : made_or (get_or ys place free) r ≡ when_done answered (λ k. stored (protocol.new_record kdf asked)) (get_or ys place free)
+      new = o.session ∙ ap (λ (v : Answer). when_done v (λ k. stored (protocol.new_record kdf asked)) (get_or ys place free)) same
 
       exactly : Exactly (adding asked) (only_table (table_of ys)) ys zs
-      exactly =
-          put answered ys zs f (stored (protocol.new_record kdf asked)) (ez ∙ ap (set ys f) new)
-          ∙ ap (λ (k : ℕ). when_done answered (λ n. set ys k (stored (protocol.new_record kdf asked))) ys) ef
+      exactly = put answered ys zs place (stored (protocol.new_record kdf asked)) (ez ∙ ap (set ys place) new)
 
       leaves : only_table (table_of zs) ≡ left suite (adding asked) (only_table (table_of ys))
       leaves =

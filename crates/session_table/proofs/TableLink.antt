@@ -10,7 +10,8 @@ use Prim.Native.Nat.{ℕ, zero, suc}
 use native.Mathlib.Nat.{zero-lt-suc}
 use borrow.Author.Tests.{lt-ltb}
 use lib.ListN.{length, get_or, set}
-use lib.Dec.{ltb, is_le}
+use lib.Dec.{eqb, ltb, is_le}
+use Rattle.octets.proofs.BoolLaws.{and_true}
 use Rattle.session_record.specs.declared.Session.{Session}
 use Rattle.connection.specs.Reading.{flag}
 use Rattle.session_record.specs.Reading.{free, is_wanted, session_of}
@@ -59,6 +60,17 @@ has_free_lem (x ∷ xs) = go (flag x.used) (has_free_lem xs)
     go : (b : Bool) → model.has_free (table_of xs) ≡ ltb (free_place xs) (length xs) → (not b || model.has_free (table_of xs)) ≡ ltb (cond (not b) 0 (suc (free_place xs))) (suc (length xs))
     go true below = below ∙ sym (ap is_le (compare.suc-suc (suc (free_place xs)) (length xs)))
     go false below = sym (lt-ltb 0 (suc (length xs)) (zero-lt-suc (length xs)))
+
+-- whether there is a session of an id
+pub has_session : (id : ℕ) (t : List Session) → (model.record_of id (table_of t)).used ≡ ltb (place_of id t) (length t)
+unfolding first
+has_session id [] = refl
+has_session id (x ∷ xs) = go (is_wanted true id x) refl (has_session id xs)
+  where
+    go : (b : Bool) → is_wanted true id x ≡ b → (model.record_of id (table_of xs)).used ≡ ltb (place_of id xs) (length xs)
+        → (cond b (session_of x) (model.record_of id (table_of xs))).used ≡ ltb (cond b 0 (suc (place_of id xs))) (suc (length xs))
+    go true e below = (and_true (flag x.used) (eqb x.id id) e).0 ∙ sym (lt-ltb 0 (suc (length xs)) (zero-lt-suc (length xs)))
+    go false e below = below ∙ sym (ap is_le (compare.suc-suc (suc (place_of id xs)) (length xs)))
 
 -- the record of a place put back there: the case of a refusal
 pub keeps : (t : List Session) (i : ℕ) → set t i (get_or t i free) ≡ t

@@ -1,1 +1,2 @@
-pub mod LowBits
+mod LowBits
+pub mod Pieces

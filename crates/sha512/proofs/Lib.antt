@@ -1,3 +1,2 @@
 pub mod Beginning
-pub mod TwoWords
 pub mod AnyState

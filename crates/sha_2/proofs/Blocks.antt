@@ -2,12 +2,11 @@
 -- Assumes nothing.
 use mathlib.Core.Path.{◌≡◌, refl, sym, ap, ap₂, ◌∙◌}
 use mathlib.Core.List.{List, [], ◌++◌, append_assoc, append-nil}
-use Prim.Native.Nat.{ℕ, zero, suc, ◌+◌, ◌-◌, ◌*◌, ◌/◌, ◌≤◌, ◌<◌}
-use native.Mathlib.Nat.{suc-mul, add-mul, add-zero, add-suc, mul-div_cancel, le_of_eq}
-use native.Mathlib.Numerals.{add-one}
+use Prim.Native.Nat.{ℕ, zero, suc, ◌+◌, ◌*◌, ◌/◌, ◌≤◌, ◌<◌}
+use native.Mathlib.Nat.{zero-mul, suc-mul, add-mul, add-zero, add-suc, mul-div_cancel, le_of_eq}
 use native.Mathlib.Omega.{arith}
 use lib.ListN.{length, take, drop, length-append, length-drop}
-use lib.Seq.{drop-append-le, take-append-le, drop-append-add}
+use lib.Seq.{drop-append-le, take-append-le, drop-append-add, take_all}
 use Rattle.octets.specs.Numbers.{bytes_at}
 use Rattle.sha_2.specs.Sha2.{Sha2, hash_blocks, compress, block_size}
 use Rattle.sha_2.specs.Running.{Hashed}
@@ -36,16 +35,25 @@ module _ (p : Sha2) where
       ∙ ap₂ (λ (x y : List ℕ). compress p x (take B y)) (blocks-append hs i j a b e)
       (ap (λ (n : ℕ). drop n (a ++ b)) (add-mul i j B ∙ ap (λ (n : ℕ). n + j * B) (sym e)) ∙ drop-append-add a b (j * B))
 
-  -- a turn of the loop over the blocks of m: `at` is where block i begins
-  pub blocks_turn : (hs m h h' : List ℕ) (i at : ℕ) → h ≡ hash_blocks p hs i m → at ≡ i * block_size p
-      → h' ≡ compress p h (take (at + block_size p - at) (drop at m)) → h' ≡ hash_blocks p hs (i + 1) m
+  -- one block more
+  pub one_more : (hs : List ℕ) (n : ℕ) (a block : List ℕ) → length a ≡ n * block_size p → length block ≡ block_size p
+      → hash_blocks p hs (n + 1) (a ++ block) ≡ compress p (hash_blocks p hs n a) block
   unfolding hash_blocks
-  blocks_turn hs m h h' i at e ea eh =
-      let q : at + block_size p - at ≡ block_size p = omega arith in
-      eh
-      ∙ ap₂ (λ (x : List ℕ) (n : ℕ). compress p x (take n (drop at m))) e q
-      ∙ ap (λ (n : ℕ). compress p (hash_blocks p hs i m) (bytes_at n (block_size p) m)) ea
-      ∙ ap (λ (n : ℕ). hash_blocks p hs n m) (sym (add-one i))
+  one_more hs n a block e l =
+      blocks-append hs n 1 a block e
+      ∙ ap (λ (i : ℕ). compress p (hash_blocks p hs n a) (bytes_at i (block_size p) block)) (zero-mul (block_size p))
+      ∙ ap (λ (x : List ℕ). compress p (hash_blocks p hs n a) x) (take_all (block_size p) block (le_of_eq l))
+
+  -- two blocks are one and one
+  pub one_and_one : (hs a b : List ℕ) → 0 < block_size p → length a ≡ block_size p → length b ≡ block_size p
+      → hash_blocks p hs (length (a ++ b) / block_size p) (a ++ b) ≡ hash_blocks p (hash_blocks p hs (length a / block_size p) a) (length b / block_size p) b
+  one_and_one hs a b pos la lb =
+      let B = block_size p in
+      let two : length (a ++ b) / B ≡ 2 = ap (λ (n : ℕ). n / B) (length-append a b ∙ omega (arith, la, lb)) ∙ mul-div_cancel 2 pos in
+      let one : (x : List ℕ) → length x ≡ B → length x / B ≡ 1 = λ x l. ap (λ (n : ℕ). n / B) (l ∙ omega arith) ∙ mul-div_cancel 1 pos in
+      ap (λ (n : ℕ). hash_blocks p hs n (a ++ b)) two
+      ∙ blocks-append hs 1 1 a b (omega (arith, la))
+      ∙ ap₂ (λ (i j : ℕ). hash_blocks p (hash_blocks p hs i a) j b) (sym (one a la)) (sym (one b lb))
 
   -- bytes more of a message
   pub hashed-more : {hs part m : List ℕ} (x : List ℕ) → Hashed p hs part m → Hashed p hs (part ++ x) (m ++ x)

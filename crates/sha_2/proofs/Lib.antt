@@ -5,6 +5,7 @@ pub mod Rounds
 pub mod Blocks
 pub mod Padding
 pub mod Streaming
+pub mod AnyState
 pub mod Loops
 pub mod Lengths
 pub mod PublishedExamples

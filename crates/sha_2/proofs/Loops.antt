@@ -1,18 +1,20 @@
 -- The loops of the code: for each what holds before a turn, that it holds at the start and after a turn, and what it gives at the end.
 -- Assumes nothing.
-use mathlib.Core.Path.{◌≡◌, refl, ap, ◌∙◌}
-use mathlib.Core.List.{List}
-use Prim.Native.Nat.{ℕ, ◌+◌, ◌-◌, ◌*◌, ◌/◌, ◌%◌, ◌≤◌, ◌<◌}
-use native.Mathlib.Nat.{zero-mul}
+use mathlib.Core.Path.{◌≡◌, refl, sym, ap, ap₂, ◌∙◌}
+use mathlib.Core.List.{List, [], ◌++◌, append_assoc}
+use Prim.Native.Nat.{ℕ, ◌+◌, ◌*◌, ◌/◌, ◌%◌, ◌≤◌, ◌<◌}
+use native.Mathlib.Nat.{zero-mul, suc-mul, le_of_eq}
+use native.Mathlib.Numerals.{add-one}
 use native.Mathlib.Omega.{arith}
-use lib.ListN.{length, get_or, take, drop, set, length-set}
+use lib.ListN.{length, get_or, take, set, length-set, length-append}
 use lib.Seq.{paste}
+use Rattle.std.proofs.lemmas.Nat.{div-mul-add}
 use Rattle.octets.specs.Numbers.{big_endian, to_big_endian, bytes_at}
 use Rattle.sha_2.specs.Sha2.{Sha2, Working, block_size, parse, extended, rounds, compress, hash_blocks, digest}
 use Rattle.sha_2.specs.Running.{Going, Goes}
 use Rattle.sha_2.proofs.Words.{parse_turn, digest_turn, digest-done}
 use Rattle.sha_2.proofs.Rounds.{goes-start, goes_full}
-use Rattle.sha_2.proofs.Blocks.{blocks_turn}
+use Rattle.sha_2.proofs.Blocks.{blocks-within, one_more}
 
 -- ---- the words of a block, one a turn
 
@@ -76,31 +78,38 @@ module _ (p : Sha2) where
       let g = goes_full p (take 16 w₀) w x v j s.size e s.going in
       (s.size, g.0, g.1)
 
--- ---- the whole blocks of a byte string, one a turn
+-- ---- the whole blocks of a byte string, one a turn: from the hash value hs, `whole` has been taken in, and `rest` is left
 
-pub record Taking (p : Sha2) (hs m : List ℕ) (n : ℕ) (h : List ℕ) (i : ℕ) : Type 0 where
-  pub bound : i ≤ n
-  pub count : n ≡ length m / block_size p
-  pub value : h ≡ hash_blocks p hs i m
+pub record Taking (p : Sha2) (hs m h rest : List ℕ) : Type 0 where
+  pub taken : ℕ
+  pub whole : List ℕ
+  pub joined : m ≡ whole ++ rest
+  pub size : length whole ≡ taken * block_size p
+  pub value : h ≡ hash_blocks p hs taken whole
 
 module _ (p : Sha2) where
-  pub taking_start : (hs m : List ℕ) → Taking p hs m (length m / block_size p) hs 0
+  pub taking_start : (hs m : List ℕ) → Taking p hs m hs m
   unfolding hash_blocks
-  taking_start hs m = record { bound = omega arith; count = refl; value = refl }
+  taking_start hs m = record { taken = 0; whole = []; joined = refl; size = sym (zero-mul (block_size p)); value = refl }
 
-  pub taking_turn : {hs m h h' : List ℕ} {n i : ℕ} → Taking p hs m n h i → i < n
-      → h' ≡ compress p h (take (i * block_size p + block_size p - i * block_size p) (drop (i * block_size p) m)) → Taking p hs m n h' (i + 1)
-  taking_turn {hs} {m} {h} {h'} {n} {i} s l e =
+  pub taking_turn : {hs m h h' rest rest' : List ℕ} (block : List ℕ) → Taking p hs m h rest → rest ≡ block ++ rest' → length block ≡ block_size p
+      → h' ≡ compress p h block → Taking p hs m h' rest'
+  taking_turn {hs} {m} {h} {h'} {rest} {rest'} block s e l eh =
       record {
-        bound = omega arith;
-        count = s.count;
-        value = blocks_turn p hs m h h' i (i * block_size p) s.value refl e;
+        taken = s.taken + 1;
+        whole = s.whole ++ block;
+        joined = s.joined ∙ ap (λ (x : List ℕ). s.whole ++ x) e ∙ sym (append_assoc s.whole block rest');
+        size = length-append s.whole block ∙ ap₂ ◌+◌ s.size l ∙ sym (ap (λ (n : ℕ). n * block_size p) (add-one s.taken) ∙ suc-mul s.taken (block_size p));
+        value = eh ∙ ap (λ (x : List ℕ). compress p x block) s.value ∙ sym (one_more p hs s.taken s.whole block s.size l);
       }
 
-  pub taking_end : {hs m h : List ℕ} {n i : ℕ} → Taking p hs m n h i → n ≤ i → h ≡ hash_blocks p hs (length m / block_size p) m
-  taking_end {hs} {m} {h} {n} {i} s l =
-      let e : i ≡ n = omega (arith, s.bound) in
-      s.value ∙ ap (λ (j : ℕ). hash_blocks p hs j m) (e ∙ s.count)
+  pub taking_end : {hs m h rest : List ℕ} → Taking p hs m h rest → length rest < block_size p → h ≡ hash_blocks p hs (length m / block_size p) m
+  taking_end {hs} {m} {h} {rest} s l =
+      let n : length m ≡ s.taken * block_size p + length rest = ap length s.joined ∙ length-append s.whole rest ∙ ap (λ (k : ℕ). k + length rest) s.size in
+      let e : length m / block_size p ≡ s.taken = ap (λ (k : ℕ). k / block_size p) n ∙ div-mul-add s.taken (block_size p) (length rest) l in
+      s.value
+      ∙ sym (blocks-within p hs s.taken s.whole rest (le_of_eq (sym s.size)))
+      ∙ ap₂ (λ (k : ℕ) (x : List ℕ). hash_blocks p hs k x) (sym e) (sym s.joined)
 
 -- ---- the words of the digest, one a turn
 

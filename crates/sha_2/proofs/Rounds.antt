@@ -27,7 +27,8 @@ module _ (p : Sha2) where
 
   -- a word more of the schedule, in the array that holds it
   word_more : (m w : List ℕ) (j : ℕ) → length m ≡ 16 → j + 16 < length w → take (j + 16) w ≡ extended p j m
-      → take ((j + 1) + 16) (set w (j + 16) (schedule_word p (get_or w j 0) (get_or w (j + 1) 0) (get_or w (j + 9) 0) (get_or w (j + 14) 0))) ≡ extended p (j + 1) m
+      → take ((j + 1) + 16) (set w (j + 16) (schedule_word p (get_or w j 0) (get_or w (j + 1) 0) (get_or w (j + 9) 0) (get_or w (j + 14) 0)))
+      ≡ extended p (j + 1) m
   unfolding extended
   word_more m w j e h g =
       let at : (q : ℕ) → q < 16 → get_or w (j + q) 0 ≡ get_or (extended p j m) (j + q) 0 =
@@ -56,7 +57,8 @@ module _ (p : Sha2) where
   round-more ws constants j v v' x ev ek e = e ∙ rw (add-one, ev, ek)
 
   -- two rounds more
-  pub two_more : (ws : List ℕ) (j : ℕ) {constants : List ℕ} {v v' v'' : Working} → constants ≡ p.constants → v' ≡ round p (get_or constants j 0) (get_or ws j 0) v
+  pub two_more : (ws : List ℕ) (j : ℕ) {constants : List ℕ} {v v' v'' : Working} → constants ≡ p.constants
+      → v' ≡ round p (get_or constants j 0) (get_or ws j 0) v
       → v'' ≡ round p (get_or constants (j + 1) 0) (get_or ws (j + 1) 0) v' → (x : Working) → v ≡ rounds p ws j x → v'' ≡ rounds p ws (j + 2) x
   two_more ws j {constants} {v} {v'} {v''} ek e₁ e₂ x e =
       round-more ws constants (j + 1) v' v'' x (round-more ws constants j v v' x e ek e₁) ek e₂ ∙ ap (λ (i : ℕ). rounds p ws i x) (add_assoc j 1 1)

@@ -7,36 +7,38 @@ ghost use Rattle.protocol.specs.Signing.{is_signed, with_signed_flag, signature_
 ghost use Rattle.protocol.specs.Calls.{signing_under, verifying_under, only_message, sign_tests};
 ghost use Rattle.protocol.specs.Contract.{Returns};
 ghost use Rattle.protocol.specs.Suite as suite;
+ghost use Rattle.answer.specs.Reading.{number_in};
 
-use answer::refuse;
-use arrays::bytes_16;
+use answer::{Refusal, refuse};
+use arrays::bytes_at;
 use cmac::Mac;
-use little_endian::{u32_at, u32_bytes};
+use little_endian::{number_at, to_bytes};
 use runs::copy;
 
 // 40, 3, 11, 12.
-fn refusal(key: &[u8], m: &[u8]) -> u32
-    ensures { result ≡ first_of (sign_tests key.now m.now) }
+fn sign_tests(key: &[u8], m: &[u8]) -> Result<(), Refusal>
+    ensures { number_in result ≡ first_of (sign_tests key.now m.now) }
 {
-    let line12 = refuse(12, !protocol_id::begins(m, 0, 0xFE), 0);
-    let line11 = refuse(11, m.len() < 64, line12);
-    let line3 = refuse(3, connection::longest_message() < m.len(), line11);
-    refusals::signing_key_number(key, line3)
+    refusals::signing_key_tests(key)?;
+    refuse(connection::longest_message() < m.len(), Refusal::TooLong)?;
+    refuse(m.len() < 64, Refusal::InnerTooShort)?;
+    refuse(!protocol_id::begins(m, 0, 0xFE), Refusal::NotHeader)
 }
 
 // SMB2_FLAGS_SIGNED is set.
-fn is_signed(m: &[u8]) -> bool
+pub fn is_signed(m: &[u8]) -> bool
     requires { 64 ≤ length m.now }
     ensures { result ≡ is_signed m.now }
 {
-    u32_at(m, 16) / 8 % 2 == 1
+    number_at::<4>(m, 16) / 8 % 2 == 1
 }
 
-fn set_signed(m: &mut [u8])
+// Sets the flag; the others stay.
+pub fn set_signed(m: &mut [u8])
     requires { 64 ≤ length m.old }
     ensures { m.new ≡ with_signed_flag m.old }
 {
-    let flags = u32_bytes(u32_at(m, 16) | 8);
+    let flags = to_bytes::<4>(number_at::<4>(m, 16) | 8);
     copy(m, 16, &flags);
 }
 
@@ -45,41 +47,32 @@ fn signature(key: &[u8], m: &[u8]) -> [u8; 16]
     requires { (length key.now ≡ 16) × (64 ≤ length m.now) }
     ensures { result ≡ signature_under suite.cmac key.now m.now }
 {
-    let t = aes::table();
-    let keys = aes::expand_key(bytes_16(key, 0));
+    let cipher = aes::Cipher::new(key);
     let mut header = [0u8; 64];
     copy(&mut header, 0, &m[..48]);
     Mac::new()
-        .update(&t, keys, &header)
-        .update(&t, keys, &m[64..])
-        .finish(&t, keys)
+        .update(&cipher, &header)
+        .update(&cipher, &m[64..])
+        .finish(&cipher)
 }
 
 // Signs the message in place: 40, 3, 11, 12. Refused, the message is as it was lent.
-pub fn sign(key: &[u8], message: &mut [u8]) -> u32
-    ensures { Returns (signing_under key.now) (only_message message.old) result (only_message message.new) }
+pub fn sign(key: &[u8], message: &mut [u8]) -> Result<(), Refusal>
+    ensures { Returns (signing_under key.now) (only_message message.old) (number_in result) (only_message message.new) }
 {
-    let number = refusal(key, message);
-    if number != 0 {
-        return number;
-    }
+    sign_tests(key, message)?;
     set_signed(message);
     let stored = signature(key, message);
     copy(message, 48, &stored);
-    0
+    Ok(())
 }
 
 // Verifies the message: 40, 3, 11, 12, 24, 25.
-pub fn verify(key: &[u8], message: &[u8]) -> u32
-    ensures { Returns (verifying_under key.now) (only_message message.now) result (only_message message.now) }
+pub fn verify(key: &[u8], message: &[u8]) -> Result<(), Refusal>
+    ensures { Returns (verifying_under key.now) (only_message message.now) (number_in result) (only_message message.now) }
 {
-    let number = refusal(key, message);
-    if number != 0 {
-        return number;
-    }
-    if !is_signed(message) {
-        return 24;
-    }
-    let right = compare::same_16(bytes_16(message, 48), signature(key, message));
-    refuse(25, !right, 0)
+    sign_tests(key, message)?;
+    refuse(!is_signed(message), Refusal::NotSigned)?;
+    let right = compare::same_16(bytes_at(message, 48), signature(key, message));
+    refuse(!right, Refusal::BadSignature)
 }

@@ -12,7 +12,6 @@ use lib.Seq.{paste}
 use Rattle.octets.specs.Numbers.{bytes_at}
 use Rattle.octets.specs.Same.{same_bytes}
 use Rattle.octets.proofs.BoolLaws.{and_true}
-use Rattle.octets.proofs.Paste.{paste_all}
 use Rattle.aes.specs.BlockCipher.{block_cipher, expanded_key}
 use Rattle.cmac.specs.declared.Mac.{Mac}
 use Rattle.cmac.specs.Running.{nothing_taken, updated}
@@ -37,13 +36,13 @@ module _ (key : Bytes) where
   unfolding begin_step
   begin_refused h es er = er ∙ ap (λ (x : SignState). step_with x 40) es ∙ sym (ap begun_if (ne_eqb (length key) 16 h))
 
-  abbrev fresh : List ℕ → Mac → SignState
-  fresh own mac = record { key = own; header = replicate 64 0; code = mac; length = 0; begun = 1 }
+  abbrev fresh : List ℕ → SignState → SignState
+  fresh own s = record { key = own; header = s.header; code = s.code; length = s.length; begun = 1 }
 
-  pub begin_done : {own : List ℕ} {mac : Mac} {r : SignStep} → length key ≡ 16 → own ≡ key → mac ≡ nothing_taken → r ≡ step_with (fresh own mac) 0
+  pub begin_done : {own : List ℕ} {none : SignState} {r : SignStep} → length key ≡ 16 → own ≡ key → none ≡ no_message → r ≡ step_with (fresh own none) 0
       → r ≡ begin_step key
-  unfolding begin_step begun_under
-  begin_done l eo em er = er ∙ ap₂ (λ (own : List ℕ) (mac : Mac). step_with (fresh own mac) 0) eo em ∙ sym (ap begun_if (eq-eqb (length key) 16 l))
+  unfolding begin_step begun_under no_message
+  begin_done l eo en er = er ∙ ap₂ (λ (own : List ℕ) (s : SignState). step_with (fresh own s) 0) eo en ∙ sym (ap begun_if (eq-eqb (length key) 16 l))
 
 -- ---- a piece
 
@@ -116,19 +115,21 @@ module _ (s : SignState) (place : Bytes) where
   abbrev place_if : Bool → Bytes
   place_if b = cond b (signature_from s) place
 
-  pub number_is : {n j : ℕ} → n ≡ cond (not (eqb (length place) 16)) 40 j → j ≡ joined_else s 0 → n ≡ sign_number s place
+  pub place_bad : not (eqb (length place) 16) ≡ true → 40 ≡ sign_number s place
   unfolding sign_number
-  number_is en ej = en ∙ ap (cond (not (eqb (length place) 16)) 40) ej
+  place_bad e = sym (ap (λ (b : Bool). cond b 40 (joined_else s 0)) e)
+
+  pub number_is : {n : ℕ} → not (eqb (length place) 16) ≡ false → n ≡ joined_else s 0 → n ≡ sign_number s place
+  unfolding sign_number
+  number_is e en = en ∙ sym (ap (λ (b : Bool). cond b 40 (joined_else s 0)) e)
 
   pub place_stays : {n : ℕ} → n ≡ sign_number s place → (n ≡ 0 → ⊥) → place ≡ sign_place s place
   unfolding sign_place
   place_stays e d = sym (ap place_if (ne_eqb (sign_number s place) 0 (λ z. d (e ∙ z))))
 
-  pub place_filled : {n : ℕ} {code place' : Bytes} → n ≡ sign_number s place → n ≡ 0 → length place ≡ 16 → length code ≡ 16 → code ≡ signature_from s
-      → place' ≡ paste place 0 code (length code) → place' ≡ sign_place s place
+  pub place_filled : {place' : Bytes} → 0 ≡ sign_number s place → place' ≡ signature_from s → place' ≡ sign_place s place
   unfolding sign_place
-  place_filled {n} {code} {place'} e z lp lc ec ep =
-      ep ∙ paste_all place 0 code (omega (arith, lp, lc)) ∙ ec ∙ sym (ap place_if (eq-eqb (sign_number s place) 0 (sym e ∙ z)))
+  place_filled e ep = ep ∙ sym (ap place_if (eq-eqb (sign_number s place) 0 (sym e)))
 
 -- 11 and 12 were answered, or not
 else_stays : (a b : Bool) (n k : ℕ) → n ≡ cond a 11 (cond b 12 0) → (n ≡ 0 → ⊥) → n ≡ cond a 11 (cond b 12 k)

@@ -1,4 +1,3 @@
-pub mod Limit
 pub mod CodeLaws
 pub mod StateLaws
 pub mod PieceLaws

@@ -4,15 +4,17 @@
 mod header;
 
 ghost use Rattle.std.specs.Prelude.{◌≡◌, ◌+◌, ◌≤◌, ◌<◌, length};
+ghost use Rattle.aes.specs.BlockCipher.{expanded_key};
 ghost use Rattle.protocol.specs.Connection.{longest_message};
+ghost use Rattle.answer.specs.Reading.{number_in};
 ghost use Rattle.signing_pieces.specs.Running.{in_header, behind_header, joined_else, signature_from, no_message, step_with};
 ghost use Rattle.signing_pieces.specs.Clauses.{begin_step, piece_step, sign_number, sign_place, verify_number, Signs};
 
-use answer::refuse;
-use arrays::bytes_16;
+use aes::Cipher;
+use answer::{Refusal, refuse};
+use arrays::bytes_at;
 use cmac::Mac;
-use header::{covered, filled, is_signed};
-use runs::copy;
+use header::{covered, filled};
 
 // struct smb3seal_sign_state, a message under way: any bytes are a state. The first 64 joined bytes are kept as they came, since the flag
 // and the signature may be cut anywhere; the code takes them in once they are all there. No message is under way where `begun` is 0.
@@ -39,23 +41,22 @@ pub struct SignStep {
 fn ended() -> SignState
     ensures { result ≡ no_message }
 {
-    let none = [0u8; 16];
-    let header = [0u8; 64];
     SignState {
-        key: none,
-        header: header,
+        key: [0u8; 16],
+        header: [0u8; 64],
         code: Mac::new(),
         length: 0,
         begun: 0,
     }
 }
 
-fn step(state: SignState, number: u32) -> SignStep
-    ensures { result ≡ step_with state number }
+// What every call hands back.
+fn step(state: SignState, judged: Result<(), Refusal>) -> SignStep
+    ensures { result ≡ step_with state (number_in judged) }
 {
     SignStep {
-        state: state,
-        number: number,
+        state,
+        number: answer::number(judged),
         spare: 0,
     }
 }
@@ -65,37 +66,33 @@ pub fn begin(key: &[u8]) -> SignStep
     ensures { result ≡ begin_step key.now }
 {
     if key.len() != 16 {
-        return step(ended(), 40);
+        return step(ended(), Err(Refusal::BadLength));
     }
-    let own = bytes_16(key, 0);
-    let empty = [0u8; 64];
     let state = SignState {
-        key: own,
-        header: empty,
-        code: Mac::new(),
-        length: 0,
+        key: bytes_at(key, 0),
         begun: 1,
+        ..ended()
     };
-    step(state, 0)
+    step(state, Ok(()))
 }
 
 impl SignState {
+    // The cipher under the message's key.
+    fn cipher(self) -> Cipher
+        ensures { result ≡ expanded_key self.key }
+    {
+        Cipher::new(&self.key)
+    }
+
     // The piece goes in behind the header.
     fn behind_header(self, piece: &[u8]) -> SignState
         requires { (64 ≤ self.length) × (self.length + length piece.now ≤ longest_message) }
         ensures { result ≡ behind_header self piece.now }
     {
-        let t = aes::table();
-        let key = self.key;
-        let header = self.header;
-        let code = self.code;
-        let keys = aes::expand_key(key);
         SignState {
-            key: key,
-            header: header,
-            code: code.update(&t, keys, piece),
-            length: self.length + (piece.len() as u64),
-            begun: self.begun,
+            code: self.code.update(&self.cipher(), piece),
+            length: self.length + piece.len() as u64,
+            ..self
         }
     }
 
@@ -106,29 +103,22 @@ impl SignState {
     {
         let at = self.length as usize;
         let room = 64 - at;
-        let key = self.key;
-        let header = self.header;
+        let length = self.length + piece.len() as u64;
         if piece.len() < room {
-            let code = self.code;
             return SignState {
-                key: key,
-                header: filled(header, at, piece),
-                code: code,
-                length: self.length + (piece.len() as u64),
-                begun: self.begun,
+                header: filled(self.header, at, piece),
+                length,
+                ..self
             };
         }
-        let t = aes::table();
-        let keys = aes::expand_key(key);
-        let whole = filled(header, at, &piece[..room]);
-        let signed = covered(whole);
-        let code = Mac::new().update(&t, keys, &signed);
+        let cipher = self.cipher();
+        let whole = filled(self.header, at, &piece[..room]);
+        let code = Mac::new().update(&cipher, &covered(whole));
         SignState {
-            key: key,
             header: whole,
-            code: code.update(&t, keys, &piece[room..]),
-            length: self.length + (piece.len() as u64),
-            begun: self.begun,
+            code: code.update(&cipher, &piece[room..]),
+            length,
+            ..self
         }
     }
 
@@ -136,78 +126,69 @@ impl SignState {
     pub fn piece(self, piece: &[u8]) -> SignStep
         ensures { result ≡ piece_step self piece.now }
     {
-        if !((self.begun != 0) & connection::fits(self.length, piece.len())) {
-            return step(self, 3);
+        let takes = (self.begun != 0) & connection::fits(self.length, piece.len());
+        if !takes {
+            return step(self, Err(Refusal::TooLong));
         }
         if self.length < 64 {
-            return step(self.into_header(piece), 0);
+            return step(self.into_header(piece), Ok(()));
         }
-        step(self.behind_header(piece), 0)
+        step(self.behind_header(piece), Ok(()))
     }
 
     // 11, 12.
-    fn joined_number(self) -> u32
-        ensures { result ≡ joined_else self 0 }
+    fn joined_tests(self) -> Result<(), Refusal>
+        ensures { number_in result ≡ joined_else self 0 }
     {
-        let header = self.header;
-        let line12 = refuse(12, !protocol_id::begins(&header, 0, 0xFE), 0);
-        refuse(11, (self.begun == 0) | (self.length < 64), line12)
+        refuse(
+            (self.begun == 0) | (self.length < 64),
+            Refusal::InnerTooShort,
+        )?;
+        refuse(
+            !protocol_id::begins(&self.header, 0, 0xFE),
+            Refusal::NotHeader,
+        )
     }
 
     // The signature of the joined bytes, with the flag as set.
     fn signature(self) -> [u8; 16]
         ensures { result ≡ signature_from self }
     {
-        let t = aes::table();
-        let key = self.key;
-        let code = self.code;
-        let keys = aes::expand_key(key);
-        code.finish(&t, keys)
+        self.code.finish(&self.cipher())
     }
 
     // Writes the signature of the joined bytes: 40, 11, 12.
-    fn signed(self, signature: &mut [u8]) -> u32
-        ensures { (result ≡ sign_number self signature.old) × (signature.new ≡ sign_place self signature.old) }
+    fn signed(self, signature: &mut [u8]) -> Result<(), Refusal>
+        ensures { (number_in result ≡ sign_number self signature.old) × (signature.new ≡ sign_place self signature.old) }
     {
-        let number = refuse(40, !(signature.len() == 16), self.joined_number());
-        if number != 0 {
-            return number;
-        }
-        let code = self.signature();
-        copy(signature, 0, &code);
-        0
+        refuse(signature.len() != 16, Refusal::BadLength)?;
+        self.joined_tests()?;
+        signature.copy_from_slice(&self.signature());
+        Ok(())
     }
 
     // Verifies the joined bytes: 11, 12, 24, 25.
-    fn verified(self) -> u32
-        ensures { result ≡ verify_number self }
+    fn verified(self) -> Result<(), Refusal>
+        ensures { number_in result ≡ verify_number self }
     {
-        let number = self.joined_number();
-        if number != 0 {
-            return number;
-        }
-        let header = self.header;
-        if !is_signed(header) {
-            return 24;
-        }
-        let right = compare::same_16(bytes_16(&header, 48), self.signature());
-        refuse(25, !right, 0)
+        self.joined_tests()?;
+        refuse(!signing::is_signed(&self.header), Refusal::NotSigned)?;
+        let right = compare::same_16(bytes_at(&self.header, 48), self.signature());
+        refuse(!right, Refusal::BadSignature)
     }
 
     // The message ends, and its signature is written.
     pub fn sign(self, signature: &mut [u8]) -> SignStep
         ensures { Signs self signature.old result signature.new }
     {
-        let number = self.signed(signature);
-        step(ended(), number)
+        let judged = self.signed(signature);
+        step(ended(), judged)
     }
 
     // The message ends, and is verified.
     pub fn verify(self) -> SignStep
         ensures { result ≡ step_with no_message (verify_number self) }
     {
-        let none = ended();
-        let number = self.verified();
-        step(none, number)
+        step(ended(), self.verified())
     }
 }

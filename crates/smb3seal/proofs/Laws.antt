@@ -30,12 +30,3 @@ module _ (c : Call) (w w' : Lent) (a : Answer) (m : Makes c w a w') (n : ℕ) (e
 
   pub reported_alone : (h h' : ℕ) → h' ≡ carried a h → Reports c w n w' h h'
   reported_alone h h' e = record { returns = returned_alone; reports = e ∙ ap (λ (b : Answer). carried b h) m.answers }
-
--- and a fold, whose place is one for a mark
-module _ (kind : FoldKind) (v m : Bytes) (w' : Lent) (a : Answer) (made : Makes (folding kind m) (only_chain v) a w') where
-  pub marked_alone : (n : ℕ) → n ≡ answer_number a → (h h' : ℕ) → h' ≡ marked a h → Reports (folding kind m) (only_chain v) n w' h h'
-  marked_alone n en h h' e =
-      record {
-        returns = returned_alone (folding kind m) (only_chain v) w' a made n en;
-        reports = e ∙ ap (λ (b : Answer). marked b h) made.answers ∙ fold_mark_lem kind v m h;
-      }

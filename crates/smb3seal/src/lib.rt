@@ -14,6 +14,8 @@ ghost use Rattle.protocol.specs.Contract.{Returns};
 ghost use Rattle.connection.specs.Reading.{under_key};
 ghost use Rattle.smb3seal.specs.Exports.{Reports};
 
+use answer::{number, report};
+use connection::Connection;
 pub use pieces::{
     smb3seal_fold_begin, smb3seal_fold_finish, smb3seal_fold_piece, smb3seal_fold_response_finish,
 };
@@ -39,7 +41,7 @@ pub fn smb3seal_derive(
 ) -> u32
     ensures { Returns (derivation dialect cipher chain.now material.now) (only_keys keys.old) result (only_keys keys.new) }
 {
-    keys::derive(dialect, cipher, material, chain, keys)
+    number(keys::derive(dialect, cipher, material, chain, keys))
 }
 
 // Folds a negotiate message or a session setup request.
@@ -47,7 +49,7 @@ pub fn smb3seal_fold(chain: &mut [u8], message: &[u8]) -> u32
     ensures { Returns (folding negotiate_message message.now) (only_chain chain.old) result (only_chain chain.new)
         × Returns (folding setup_request message.now) (only_chain chain.old) result (only_chain chain.new) }
 {
-    answer::number(preauth::fold(chain, message))
+    number(preauth::fold(chain, message))
 }
 
 // Folds a session setup response, if its status asks for that.
@@ -56,7 +58,7 @@ pub fn smb3seal_fold_response(chain: &mut [u8], message: &[u8], folded: &mut u32
 {
     let answer = preauth::fold_response(chain, message);
     *folded = answer::mark_to(answer, *folded);
-    answer::number(answer)
+    number(answer)
 }
 
 // Seals the message in place.
@@ -73,11 +75,9 @@ pub fn smb3seal_seal(
 ) -> u32
     ensures { Reports (sealing_under (under_key role dialect encryption cipher) key.now id) (message_and_counter message.old counter.old) result (message_and_counter message.new counter.new) headers.old headers.new }
 {
-    let c = connection::under_key(role, dialect, encryption, cipher);
-    let sealed = transform::seal_under(c, key, *counter, id, message);
-    let answer = sealed.answer;
-    *counter = sealed.counter;
-    answer::report(answer, headers)
+    let c = Connection::under_key(role, dialect, encryption, cipher);
+    let answer = transform::seal_under(c, key, id, counter, message);
+    report(answer, headers)
 }
 
 // Opens the message in place.
@@ -93,21 +93,21 @@ pub fn smb3seal_open(
 ) -> u32
     ensures { Reports (opening_under (under_key role dialect encryption cipher) key.now id) (only_message message.old) result (only_message message.new) headers.old headers.new }
 {
-    let c = connection::under_key(role, dialect, encryption, cipher);
+    let c = Connection::under_key(role, dialect, encryption, cipher);
     let answer = transform::open_under(c, key, id, message);
-    answer::report(answer, headers)
+    report(answer, headers)
 }
 
 // Signs the message in place.
 pub fn smb3seal_sign(key: &[u8], message: &mut [u8]) -> u32
     ensures { Returns (signing_under key.now) (only_message message.old) result (only_message message.new) }
 {
-    signing::sign(key, message)
+    number(signing::sign(key, message))
 }
 
 // Verifies the message, which stays as it is.
 pub fn smb3seal_verify(key: &[u8], message: &[u8]) -> u32
     ensures { Returns (verifying_under key.now) (only_message message.now) result (only_message message.now) }
 {
-    signing::verify(key, message)
+    number(signing::verify(key, message))
 }

@@ -9,14 +9,15 @@ ghost use Rattle.session_table.specs.Place.{place_of};
 ghost use Rattle.session_table.specs.Exactly.{Exactly};
 ghost use Rattle.smb3seal.specs.Exports.{Reports};
 
+use answer::{number, report};
 use connection::Connection;
-use session_record::Session;
+use session_record::{Adding, Session};
 
 // The place of the session of the id, or the table's length where there is none.
 pub fn smb3seal_table_find(table: &[Session], id: u64) -> usize
     ensures { result ≡ place_of id table.now }
 {
-    session_table::find(table, true, id)
+    session_table::find(table, id).unwrap_or(table.len())
 }
 
 // Adds a session of a new id in the first free record.
@@ -32,15 +33,8 @@ pub fn smb3seal_table_add(
     ensures { Returns (adding (adding_of (adding_for connection id guest anonymous) chain.now material.now)) (only_table (table_of table.old)) result (only_table (table_of table.new))
         × Exactly (adding (adding_of (adding_for connection id guest anonymous) chain.now material.now)) (only_table (table_of table.old)) table.old table.new }
 {
-    let a = session_record::adding_for(connection, id, guest, anonymous);
-    let i = session_table::find(table, true, id);
-    let there = session_table::at(table, i);
-    let f = session_table::find(table, false, 0);
-    let old = session_table::at(table, f);
-    let room = f < table.len();
-    let r = session_calls::add_record(a, there, old, room, material, chain);
-    session_table::put_at(table, f, r.session);
-    r.number
+    let a = Adding::new(connection, id, guest, anonymous);
+    number(session_table::add(table, a, material, chain))
 }
 
 // Takes the session of the id out, its keys with it.
@@ -48,11 +42,7 @@ pub fn smb3seal_table_remove(table: &mut [Session], id: u64) -> u32
     ensures { Returns (removing id) (only_table (table_of table.old)) result (only_table (table_of table.new))
         × Exactly (removing id) (only_table (table_of table.old)) table.old table.new }
 {
-    let i = session_table::find(table, true, id);
-    let s = session_table::at(table, i);
-    let r = session_record::remove_record(s);
-    session_table::put_at(table, i, r.session);
-    r.number
+    number(session_table::remove(table, id))
 }
 
 // Seals the message in place for the session of the id.
@@ -66,12 +56,8 @@ pub fn smb3seal_table_seal(
     ensures { Reports (sealing (connection_of connection) id) (message_and_table message.old (table_of table.old)) result (message_and_table message.new (table_of table.new)) headers.old headers.new
         × Exactly (sealing (connection_of connection) id) (message_and_table message.old (table_of table.old)) table.old table.new }
 {
-    let i = session_table::find(table, true, id);
-    let s = session_table::at(table, i);
-    let sealed = session_calls::seal_record(s, connection, id, message);
-    let moves = session_record::counter_moves(sealed);
-    session_table::step(table, i, moves);
-    answer::report(sealed, headers)
+    let answer = session_table::seal(table, connection, id, message);
+    report(answer, headers)
 }
 
 // Opens the message in place with the session that its header names.
@@ -83,9 +69,6 @@ pub fn smb3seal_table_open(
 ) -> u32
     ensures { Reports (opening (connection_of connection)) (message_and_table message.old (table_of table.now)) result (message_and_table message.new (table_of table.now)) headers.old headers.new }
 {
-    let id = session_record::session_id(message);
-    let i = session_table::find(table, true, id);
-    let s = session_table::at(table, i);
-    let opened = session_calls::open_record(s, connection, message);
-    answer::report(opened, headers)
+    let answer = session_table::open(table, connection, message);
+    report(answer, headers)
 }

@@ -5,22 +5,14 @@ ghost use Rattle.octets.specs.Maybe.{is_some};
 ghost use Rattle.ctr.specs.Ctr.{ctr, counter_blocks};
 ghost use Rattle.ccm.specs.Ccm.{encrypt, tag as tag_of, decrypt};
 ghost use Rattle.aes.specs.KeySizes.{is_key_length};
-ghost use Rattle.test_primitives.specs.Exports.{aes, bit, Writes, Seals, Opens, ctr_fits, ccm_fits};
+ghost use Rattle.test_primitives.specs.Exports.{aes, Writes, Seals, Opens, ctr_fits, ccm_fits};
 
 fn ctr_sized(key: &[u8], prefix: &[u8], first: u16, text: &mut [u8])
     requires { (is_key_length (length key.now) ≡ true) × (length prefix.now ≡ 12) × (length text.old < 2 ^ 32 - 2 ^ 17) }
     ensures { text.new ≡ ctr (aes key.now) (counter_blocks prefix.now first) text.old }
 {
-    let keys = aes::round_keys(key);
-    let t = aes::table();
-    ctr::apply(
-        &t,
-        keys,
-        aes::rounds(key),
-        arrays::bytes_12(prefix, 0),
-        first as u32,
-        text,
-    );
+    let cipher = aes::Cipher::new(key);
+    ctr::apply(&cipher, arrays::bytes_at(prefix, 0), u32::from(first), text);
 }
 
 #[unsafe(no_mangle)]
@@ -39,8 +31,8 @@ fn seal_sized(key: &[u8], nonce: &[u8], aad: &[u8], text: &mut [u8], tag: &mut [
     ensures { (text.new ≡ encrypt (aes key.now) nonce.now text.old)
         × (tag.new ≡ tag_of (aes key.now) nonce.now aad.now text.old) }
 {
-    let n = arrays::bytes_11(nonce, 0);
-    let a = arrays::bytes_32(aad, 0);
+    let n = arrays::bytes_at(nonce, 0);
+    let a = arrays::bytes_at(aad, 0);
     let t = ccm::seal(key, n, a, text);
     runs::copy(tag, 0, &t);
 }
@@ -75,17 +67,10 @@ fn open_sized(key: &[u8], nonce: &[u8], aad: &[u8], tag: &[u8], text: &mut [u8])
     ensures { (result ≡ is_some (decrypt (aes key.now) nonce.now aad.now tag.now text.old))
         × (text.new ≡ get_or (decrypt (aes key.now) nonce.now aad.now tag.now text.old) text.old) }
 {
-    let n = arrays::bytes_11(nonce, 0);
-    let a = arrays::bytes_32(aad, 0);
-    let t = arrays::bytes_16(tag, 0);
+    let n = arrays::bytes_at(nonce, 0);
+    let a = arrays::bytes_at(aad, 0);
+    let t = arrays::bytes_at(tag, 0);
     ccm::open(key, n, a, t, text)
-}
-
-// 1 for true.
-pub fn flag(b: bool) -> u32
-    ensures { result ≡ bit b }
-{
-    if b { 1 } else { 0 }
 }
 
 #[unsafe(no_mangle)]
@@ -107,7 +92,7 @@ pub extern "C" fn primitives_ccm_open(
         & (tag.len() == 16)
         & (text.len() < 4294967280)
     {
-        *right = flag(open_sized(key, nonce, aad, tag, text));
+        *right = u32::from(open_sized(key, nonce, aad, tag, text));
         return 0;
     }
     40

@@ -7,12 +7,11 @@ fn cmac_sized(key: &[u8], front: &[u8], back: &[u8]) -> [u8; 16]
     requires { length key.now ≡ 16 }
     ensures { result ≡ rfc4493.cmac (aes key.now) (front.now ++ back.now) }
 {
-    let keys = aes::expand_key(arrays::bytes_16(key, 0));
-    let t = aes::table();
+    let cipher = aes::Cipher::new(key);
     cmac::Mac::new()
-        .update(&t, keys, front)
-        .update(&t, keys, back)
-        .finish(&t, keys)
+        .update(&cipher, front)
+        .update(&cipher, back)
+        .finish(&cipher)
 }
 
 #[unsafe(no_mangle)]

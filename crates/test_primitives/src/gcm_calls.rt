@@ -11,7 +11,7 @@ fn seal_sized(key: &[u8], nonce: &[u8], aad: &[u8], text: &mut [u8], tag: &mut [
     ensures { (text.new ≡ encrypt (aes key.now) nonce.now text.old)
         × (tag.new ≡ tag_of (aes key.now) nonce.now aad.now (encrypt (aes key.now) nonce.now text.old)) }
 {
-    let n = arrays::bytes_12(nonce, 0);
+    let n = arrays::bytes_at(nonce, 0);
     let t = gcm::seal(key, n, aad, text);
     runs::copy(tag, 0, &t);
 }
@@ -46,8 +46,8 @@ fn open_sized(key: &[u8], nonce: &[u8], aad: &[u8], tag: &[u8], text: &mut [u8])
     ensures { (result ≡ is_some (decrypt (aes key.now) nonce.now aad.now tag.now text.old))
         × (text.new ≡ get_or (decrypt (aes key.now) nonce.now aad.now tag.now text.old) text.old) }
 {
-    let n = arrays::bytes_12(nonce, 0);
-    let t = arrays::bytes_16(tag, 0);
+    let n = arrays::bytes_at(nonce, 0);
+    let t = arrays::bytes_at(tag, 0);
     gcm::open(key, n, aad, t, text)
 }
 
@@ -70,7 +70,7 @@ pub extern "C" fn primitives_gcm_open(
         & (tag.len() == 16)
         & (text.len() < 4294967280)
     {
-        *right = crate::ccm_calls::flag(open_sized(key, nonce, aad, tag, text));
+        *right = u32::from(open_sized(key, nonce, aad, tag, text));
         return 0;
     }
     40

@@ -51,7 +51,7 @@ pub extern "C" fn primitives_kdf(
 ) -> u32
     ensures { Writes (eqb (length derived.old) 16) (derive_sha256 16 key.now label.now context.now) derived.old derived.new result }
 {
-    let value = kdf::derive_16(key, label, context);
+    let value = kdf::derive::<16>(key, label, context);
     put(&value, derived)
 }
 
@@ -65,6 +65,6 @@ pub extern "C" fn primitives_kdf_32(
 ) -> u32
     ensures { Writes (eqb (length derived.old) 32) (derive_sha256 32 key.now label.now context.now) derived.old derived.new result }
 {
-    let value = kdf::derive_32(key, label, context);
+    let value = kdf::derive::<32>(key, label, context);
     put(&value, derived)
 }

@@ -1,53 +1,45 @@
 // FIPS 197.
-ghost use Rattle.std.specs.Prelude.{◌<◌, true, ◌≡◌, length};
+ghost use Rattle.std.specs.Prelude.{true, ◌≡◌, length};
 ghost use Rattle.aes.specs.KeySizes.{is_key_length};
 
-fn show_round_keys(keys: [[u8; 16]; 15], rounds: usize)
-    requires { rounds < 15 }
-{
-    let mut r: usize = 0;
-    while r <= rounds {
-        test_lines::show_16(keys[r]);
-        r += 1;
-    }
-}
+use aes::Cipher;
+use std::io;
+use test_lines::{Hex, Word, Words};
 
-fn expand_sized(key: &[u8])
+fn expand_sized(rt: &HostRuntime, key: &[u8]) -> io::Result<()>
     requires { is_key_length (length key.now) ≡ true }
 {
     let keys = aes::round_keys(key);
-    show_round_keys(keys, aes::rounds(key));
+    for r in 0..=aes::rounds(key) {
+        print!(rt; "{}", Hex(&keys[r]))?;
+    }
+    Ok(())
 }
 
 // expand KEY: the round keys.
-pub fn expand(line: &[u8]) {
-    let mut key = [0u8; 32];
-    let k = test_lines::bytes(line, test_lines::after_space(line, 0), &mut key);
-    let given = test_lines::prefix(&key, k.len);
-    if aes::is_key_length(given.len()) {
-        expand_sized(given);
+pub fn expand(rt: &HostRuntime, words: &mut Words<'_>) -> io::Result<()> {
+    let word: Word<32> = words.word();
+    let key = word.as_slice();
+    if aes::is_key_length(key.len()) {
+        expand_sized(rt, key)?;
     }
-    test_lines::end_line();
+    println!(rt)
 }
 
-fn encrypt_sized(key: &[u8], block: [u8; 16])
+fn encrypt_sized(rt: &HostRuntime, key: &[u8], block: [u8; 16]) -> io::Result<()>
     requires { is_key_length (length key.now) ≡ true }
 {
-    let t = aes::table();
-    let keys = aes::round_keys(key);
-    let out = aes::encrypt_block(&t, keys, aes::rounds(key), block);
-    test_lines::show(&out);
+    let out = Cipher::new(key).encrypt_block(block);
+    print!(rt; "{}", Hex(&out))
 }
 
 // encrypt KEY BLOCK: the block, enciphered.
-pub fn encrypt(line: &[u8]) {
-    let mut key = [0u8; 32];
-    let k = test_lines::bytes(line, test_lines::after_space(line, 0), &mut key);
-    let mut block = [0u8; 16];
-    test_lines::bytes(line, k.next, &mut block);
-    let given = test_lines::prefix(&key, k.len);
-    if aes::is_key_length(given.len()) {
-        encrypt_sized(given, block);
+pub fn encrypt(rt: &HostRuntime, words: &mut Words<'_>) -> io::Result<()> {
+    let word: Word<32> = words.word();
+    let block: Word<16> = words.word();
+    let key = word.as_slice();
+    if aes::is_key_length(key.len()) {
+        encrypt_sized(rt, key, block.bytes)?;
     }
-    test_lines::end_line();
+    println!(rt)
 }

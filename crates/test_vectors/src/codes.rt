@@ -1,45 +1,36 @@
 // SP 800-38B and RFC 4493.
-ghost use Rattle.std.specs.Prelude.{◌≤◌, ◌<◌};
+ghost use Rattle.std.specs.Prelude.{◌<◌};
+
+use aes::Cipher;
+use cmac::Mac;
+use std::io;
+use test_lines::{Hex, Word, Words};
 
 // cmac KEY MESSAGE: its code.
-pub fn cmac(line: &[u8]) {
-    let mut key = [0u8; 16];
-    let k = test_lines::bytes(line, test_lines::after_space(line, 0), &mut key);
-    let mut message = [0u8; 256];
-    let m = test_lines::bytes(line, k.next, &mut message);
-    test_lines::show_16(cmac::cmac(aes::expand_key(key), test_lines::prefix(&message, m.len)));
-    test_lines::end_line();
+pub fn cmac(rt: &HostRuntime, words: &mut Words<'_>) -> io::Result<()> {
+    let key: Word<16> = words.word();
+    let message: Word<256> = words.word();
+    let code = cmac::cmac(&Cipher::new(&key.bytes), message.as_slice());
+    println!(rt; "{}", Hex(&code))
 }
 
-// Where the piece from `at` on ends, of at most n + 1 bytes.
-fn piece_end(at: usize, n: usize, len: usize) -> usize
-    requires { at < len }
-    ensures { (at < result) × (result ≤ len) }
+// The code of a message that is taken in by pieces of n bytes.
+fn by_pieces(cipher: &Cipher, message: &[u8], n: usize) -> [u8; 16]
+    requires { 0 < n }
 {
-    if len - at <= n { len } else { at + n + 1 }
-}
-
-fn show_pieces(keys: [[u8; 16]; 11], message: &[u8], n: usize) {
-    let t = aes::table();
-    let mut running = cmac::Mac::new();
-    let mut at: usize = 0;
-    while at < message.len() {
-        let end = piece_end(at, n, message.len());
-        running = running.update(&t, keys, &message[at..end]);
-        at = end;
+    let mut running = Mac::new();
+    for piece in message.chunks(n) {
+        running = running.update(cipher, piece);
     }
-    test_lines::show_16(running.finish(&t, keys));
-    test_lines::end_line();
+    running.finish(cipher)
 }
 
 // cmac-pieces KEY MESSAGE COUNT: its code, taken in by pieces of COUNT + 1 bytes.
-pub fn cmac_pieces(line: &[u8]) {
-    let mut key = [0u8; 16];
-    let k = test_lines::bytes(line, test_lines::after_space(line, 0), &mut key);
-    let mut message = [0u8; 256];
-    let m = test_lines::bytes(line, k.next, &mut message);
-    let mut count = [0u8; 1];
-    test_lines::bytes(line, m.next, &mut count);
-    let n = test_lines::wide(count[0]);
-    show_pieces(aes::expand_key(key), test_lines::prefix(&message, m.len), n);
+pub fn cmac_pieces(rt: &HostRuntime, words: &mut Words<'_>) -> io::Result<()> {
+    let key: Word<16> = words.word();
+    let message: Word<256> = words.word();
+    let count: Word<1> = words.word();
+    let n = usize::from(count.bytes[0]) + 1;
+    let code = by_pieces(&Cipher::new(&key.bytes), message.as_slice(), n);
+    println!(rt; "{}", Hex(&code))
 }

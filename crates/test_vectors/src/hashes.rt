@@ -1,100 +1,84 @@
 // FIPS 180-4, FIPS 198-1 and SP 800-108.
 ghost use Rattle.std.specs.Prelude.{◌≤◌};
 
+use sha256::Sha256;
+use sha512::Sha512;
+use std::io;
+use test_lines::{Hex, Word, Words};
+
 // sha256 MESSAGE: its digest.
-pub fn sha256(line: &[u8]) {
-    let mut message = [0u8; 256];
-    let m = test_lines::bytes(line, test_lines::after_space(line, 0), &mut message);
-    let digest = sha256::hash(test_lines::prefix(&message, m.len));
-    test_lines::show(&digest);
-    test_lines::end_line();
+pub fn sha256(rt: &HostRuntime, words: &mut Words<'_>) -> io::Result<()> {
+    let message: Word<256> = words.word();
+    let digest = sha256::hash(message.as_slice());
+    println!(rt; "{}", Hex(&digest))
 }
 
 // sha512 MESSAGE: its digest.
-pub fn sha512(line: &[u8]) {
-    let mut message = [0u8; 256];
-    let m = test_lines::bytes(line, test_lines::after_space(line, 0), &mut message);
-    let digest = sha512::hash(test_lines::prefix(&message, m.len));
-    test_lines::show(&digest);
-    test_lines::end_line();
+pub fn sha512(rt: &HostRuntime, words: &mut Words<'_>) -> io::Result<()> {
+    let message: Word<256> = words.word();
+    let digest = sha512::hash(message.as_slice());
+    println!(rt; "{}", Hex(&digest))
 }
 
 // The length of the piece after one of n bytes, where `left` bytes are left: 1, 8, 15, .. below 997, and over again; 0 at the end.
 fn next_piece(n: usize, left: usize) -> usize
     ensures { (result ≤ 997) × (result ≤ left) }
 {
-    let m = n % 990 + 7;
-    if m < left { m } else { left }
+    (n % 990 + 7).min(left)
+}
+
+// A million times the byte `a`, taken in by pieces.
+fn by_pieces<H, U: Fn(H, &[u8]) -> H>(start: H, update: U) -> H
+    requires { U.IsAlwaysCallable update }
+{
+    let a = [b'a'; 997];
+    let mut running = start;
+    let mut left = 1000000;
+    let mut n = 1;
+    while 0 < n {
+        running = update(running, &a[..n]);
+        left -= n;
+        n = next_piece(n, left);
+    }
+    running
 }
 
 // sha256-pieces: the digest of a million times the byte `a`, taken in by pieces.
-pub fn sha256_pieces() {
-    let a = [97u8; 997];
-    let mut running = sha256::Sha256::new();
-    let mut left: usize = 1000000;
-    let mut n: usize = 1;
-    while 0 < n {
-        running = running.update(test_lines::prefix(&a, n));
-        left -= n;
-        n = next_piece(n, left);
-    }
-    test_lines::show(&running.finish());
-    test_lines::end_line();
+pub fn sha256_pieces(rt: &HostRuntime) -> io::Result<()> {
+    let digest = by_pieces(Sha256::new(), |running, piece| running.update(piece)).finish();
+    println!(rt; "{}", Hex(&digest))
 }
 
 // sha512-pieces: the digest of a million times the byte `a`, taken in by pieces.
-pub fn sha512_pieces() {
-    let a = [97u8; 997];
-    let mut running = sha512::Sha512::new();
-    let mut left: usize = 1000000;
-    let mut n: usize = 1;
-    while 0 < n {
-        running = running.update(test_lines::prefix(&a, n));
-        left -= n;
-        n = next_piece(n, left);
-    }
-    test_lines::show(&running.finish());
-    test_lines::end_line();
+pub fn sha512_pieces(rt: &HostRuntime) -> io::Result<()> {
+    let digest = by_pieces(Sha512::new(), |running, piece| running.update(piece)).finish();
+    println!(rt; "{}", Hex(&digest))
 }
 
 // hmac KEY MESSAGE COUNT: the first COUNT bytes of the code.
-pub fn hmac(line: &[u8]) {
-    let mut key = [0u8; 256];
-    let k = test_lines::bytes(line, test_lines::after_space(line, 0), &mut key);
-    let mut message = [0u8; 256];
-    let m = test_lines::bytes(line, k.next, &mut message);
-    let mut count = [0u8; 1];
-    test_lines::bytes(line, m.next, &mut count);
-    let code = hmac::hmac(
-        test_lines::prefix(&key, k.len),
-        test_lines::prefix(&message, m.len),
-    );
-    test_lines::show(test_lines::prefix(&code, test_lines::wide(count[0])));
-    test_lines::end_line();
+pub fn hmac(rt: &HostRuntime, words: &mut Words<'_>) -> io::Result<()> {
+    let key: Word<256> = words.word();
+    let message: Word<256> = words.word();
+    let count: Word<1> = words.word();
+    let code = hmac::hmac(key.as_slice(), message.as_slice());
+    let n = usize::from(count.bytes[0]).min(code.len());
+    println!(rt; "{}", Hex(&code[..n]))
 }
 
-// kdf KEY LABEL CONTEXT: the 16 bytes derived; kdf-256: the 32 bytes.
-pub fn kdf(line: &[u8], wide: bool) {
-    let mut key = [0u8; 64];
-    let k = test_lines::bytes(line, test_lines::after_space(line, 0), &mut key);
-    let mut label = [0u8; 64];
-    let l = test_lines::bytes(line, k.next, &mut label);
-    let mut context = [0u8; 64];
-    let c = test_lines::bytes(line, l.next, &mut context);
-    show_derived(
-        test_lines::prefix(&key, k.len),
-        test_lines::prefix(&label, l.len),
-        test_lines::prefix(&context, c.len),
-        wide,
-    );
-    test_lines::end_line();
+// kdf KEY LABEL CONTEXT: the 16 bytes derived.
+pub fn kdf(rt: &HostRuntime, words: &mut Words<'_>) -> io::Result<()> {
+    let key: Word<64> = words.word();
+    let label: Word<64> = words.word();
+    let context: Word<64> = words.word();
+    let derived = kdf::derive::<16>(key.as_slice(), label.as_slice(), context.as_slice());
+    println!(rt; "{}", Hex(&derived))
 }
 
-fn show_derived(key: &[u8], label: &[u8], context: &[u8], wide: bool) {
-    if wide {
-        let derived = kdf::derive_32(key, label, context);
-        test_lines::show(&derived);
-    } else {
-        test_lines::show_16(kdf::derive_16(key, label, context));
-    }
+// kdf-256 KEY LABEL CONTEXT: the 32 bytes derived.
+pub fn kdf_256(rt: &HostRuntime, words: &mut Words<'_>) -> io::Result<()> {
+    let key: Word<64> = words.word();
+    let label: Word<64> = words.word();
+    let context: Word<64> = words.word();
+    let derived = kdf::derive::<32>(key.as_slice(), label.as_slice(), context.as_slice());
+    println!(rt; "{}", Hex(&derived))
 }

@@ -8,71 +8,59 @@ mod hashes;
 mod modes;
 mod smb;
 
-// The operation of the protocol that a line names.
-fn run_smb(line: &[u8]) {
-    if test_lines::is(line, b"fold ") {
-        smb::fold(line);
-    } else if test_lines::is(line, b"fold-response ") {
-        smb::fold_response(line);
-    } else if test_lines::is(line, b"derive ") {
-        smb::derive(line, 64);
-    } else if test_lines::is(line, b"signing ") {
-        smb::derive(line, 16);
-    } else if test_lines::is(line, b"open ") {
-        smb::open(line);
-    } else if test_lines::is(line, b"seal ") {
-        smb::seal(line, true);
-    } else if test_lines::is(line, b"seal-number ") {
-        smb::seal(line, false);
-    } else if test_lines::is(line, b"sign ") {
-        smb::sign(line);
-    } else if test_lines::is(line, b"verify ") {
-        smb::verify(line);
+use std::io::{self, Read};
+use std::str;
+use test_lines::Words;
+
+// The operation that a line names, on the words behind its name. A line of no known name has no result.
+fn run(rt: &HostRuntime, name: &str, words: &mut Words<'_>) -> io::Result<()> {
+    match name {
+        "sha256" => hashes::sha256(rt, words),
+        "sha512" => hashes::sha512(rt, words),
+        "sha256-pieces" => hashes::sha256_pieces(rt),
+        "sha512-pieces" => hashes::sha512_pieces(rt),
+        "hmac" => hashes::hmac(rt, words),
+        "kdf" => hashes::kdf(rt, words),
+        "kdf-256" => hashes::kdf_256(rt, words),
+        "expand" => block_cipher::expand(rt, words),
+        "encrypt" => block_cipher::encrypt(rt, words),
+        "ctr" => modes::ctr(rt, words),
+        "ccm" => modes::ccm(rt, words),
+        "gcm" => modes::gcm(rt, words),
+        "cmac" => codes::cmac(rt, words),
+        "cmac-pieces" => codes::cmac_pieces(rt, words),
+        "fold" => smb::fold(rt, words),
+        "fold-response" => smb::fold_response(rt, words),
+        "derive" => smb::derive(rt, words, 64),
+        "signing" => smb::derive(rt, words, 16),
+        "open" => smb::open(rt, words),
+        "seal" => smb::seal(rt, words, true),
+        "seal-number" => smb::seal(rt, words, false),
+        "sign" => smb::sign(rt, words),
+        "verify" => smb::verify(rt, words),
+        _ => Ok(()),
     }
 }
 
-// The operation that a line names.
-fn run(line: &[u8]) {
-    if test_lines::is(line, b"sha256 ") {
-        hashes::sha256(line);
-    } else if test_lines::is(line, b"sha512 ") {
-        hashes::sha512(line);
-    } else if test_lines::is(line, b"sha256-pieces ") {
-        hashes::sha256_pieces();
-    } else if test_lines::is(line, b"sha512-pieces ") {
-        hashes::sha512_pieces();
-    } else if test_lines::is(line, b"hmac ") {
-        hashes::hmac(line);
-    } else if test_lines::is(line, b"kdf ") {
-        hashes::kdf(line, false);
-    } else if test_lines::is(line, b"kdf-256 ") {
-        hashes::kdf(line, true);
-    } else if test_lines::is(line, b"expand ") {
-        block_cipher::expand(line);
-    } else if test_lines::is(line, b"encrypt ") {
-        block_cipher::encrypt(line);
-    } else if test_lines::is(line, b"ctr ") {
-        modes::ctr(line);
-    } else if test_lines::is(line, b"ccm ") {
-        modes::ccm(line);
-    } else if test_lines::is(line, b"gcm ") {
-        modes::gcm(line);
-    } else if test_lines::is(line, b"cmac ") {
-        codes::cmac(line);
-    } else if test_lines::is(line, b"cmac-pieces ") {
-        codes::cmac_pieces(line);
-    } else {
-        run_smb(line);
+// A name, a space, and more.
+fn run_line(rt: &HostRuntime, line: &[u8]) -> io::Result<()> {
+    let Some(space) = line.iter().position(|b| *b == b' ') else {
+        return Ok(());
+    };
+    let at = space + 1;
+    match str::from_utf8(&line[..space]) {
+        Ok(name) if at < line.len() => run(rt, name, &mut Words { line, at }),
+        _ => Ok(()),
     }
 }
 
-fn main() {
-    let mut input = io::large_buffer();
-    let n = io::read_full(0, &mut input);
-    let mut at: usize = 0;
-    while at < n {
-        let end = test_lines::line_end(&input[..n], at);
-        run(&input[at..end]);
-        at = end;
+fn main(rt: HostRuntime) -> io::Result<()> {
+    let mut input = Vec::new(rt.alloc());
+    let read = rt.stdin().take(65536).read_to_end(&mut input);
+    for line in input.split_inclusive(|b| *b == b'\n') {
+        run_line(&rt, line)?;
     }
+    // said after what was read has been run
+    read?;
+    Ok(())
 }

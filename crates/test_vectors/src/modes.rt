@@ -1,151 +1,103 @@
-// SP 800-38A, SP 800-38C and SP 800-38D, under keys of both sizes. Each line of the latter two gives: the ciphertext and the tag; 0 and the ciphertext, from opening with a tag that is
-// wrong in its last bit; 1 and the plaintext, from opening with the tag.
+// SP 800-38A, SP 800-38C and SP 800-38D, under keys of both sizes. Each line of the latter two gives: the ciphertext and the tag; 0 and the
+// ciphertext, from opening with a tag that is wrong in its last bit; 1 and the plaintext, from opening with the tag.
 ghost use Rattle.std.specs.Prelude.{◌≤◌, ◌<◌, true, ◌≡◌, length, get_or, set};
 ghost use Rattle.std.specs.Int.Bits.{bit_xor};
 ghost use Rattle.aes.specs.KeySizes.{is_key_length};
+
+use aes::Cipher;
+use std::io;
+use test_lines::{Hex, Word, Words};
 
 // The tag with its last bit changed.
 fn damaged(tag: [u8; 16]) -> [u8; 16]
     ensures { result ≡ set tag 15 (bit_xor (get_or tag 15 0) 1) }
 {
     let mut t = tag;
-    t[15] = t[15] ^ 1;
+    t[15] ^= 1;
     t
 }
 
-// A ciphertext and its tag.
-fn show_sealed(message: &[u8], tag: [u8; 16]) {
-    test_lines::show(message);
-    test_lines::space();
-    test_lines::show_16(tag);
-}
-
-// Whether a message was opened, and what its buffer holds.
-fn show_opened(opened: bool, message: &[u8]) {
-    if opened {
-        io::write_all(test_lines::STDOUT, b" 1 ");
-    } else {
-        io::write_all(test_lines::STDOUT, b" 0 ");
-    }
-    test_lines::show(message);
-}
-
 // ctr KEY PREFIX FIRST TEXT: the text, enciphered. FIRST is the number in the first counter block.
-pub fn ctr(line: &[u8]) {
-    let mut key = [0u8; 32];
-    let k = test_lines::bytes(line, test_lines::after_space(line, 0), &mut key);
-    let mut prefix = [0u8; 12];
-    let p = test_lines::bytes(line, k.next, &mut prefix);
-    let first = test_lines::read_number(line, p.next);
-    let mut message = [0u8; 256];
-    let m = test_lines::bytes(line, first.next, &mut message);
-    let len = m.len;
-    ctr_under(
-        test_lines::prefix(&key, k.len),
-        prefix,
-        (first.value % 4294966784) as u32,
-        &mut message[..len],
-    );
-}
-
-fn ctr_under(key: &[u8], prefix: [u8; 12], first: u32, message: &mut [u8])
-    requires { (length message.old ≤ 256) × (first < 4294966784) }
-{
+pub fn ctr(rt: &HostRuntime, words: &mut Words<'_>) -> io::Result<()> {
+    let word: Word<32> = words.word();
+    let prefix: Word<12> = words.word();
+    let first = (words.number() % 4294966784) as u32;
+    let mut text: Word<256> = words.word();
+    let key = word.as_slice();
     if aes::is_key_length(key.len()) {
-        ctr_sized(key, prefix, first, message);
-        return;
+        let len = text.len;
+        let message = &mut text.bytes[..len];
+        ctr_sized(key, prefix.bytes, first, message);
+        print!(rt; "{}", Hex(message))?;
     }
-    test_lines::end_line();
+    println!(rt)
 }
 
 fn ctr_sized(key: &[u8], prefix: [u8; 12], first: u32, message: &mut [u8])
     requires { (is_key_length (length key.now) ≡ true) × (length message.old ≤ 256) × (first < 4294966784) }
 {
-    let t = aes::table();
-    let keys = aes::round_keys(key);
-    ctr::apply(&t, keys, aes::rounds(key), prefix, first, message);
-    test_lines::show(message);
-    test_lines::end_line();
+    ctr::apply(&Cipher::new(key), prefix, first, message);
 }
 
 // ccm KEY NONCE AAD TEXT.
-pub fn ccm(line: &[u8]) {
-    let mut key = [0u8; 32];
-    let k = test_lines::bytes(line, test_lines::after_space(line, 0), &mut key);
-    let mut nonce = [0u8; 11];
-    let n = test_lines::bytes(line, k.next, &mut nonce);
-    let mut aad = [0u8; 32];
-    let a = test_lines::bytes(line, n.next, &mut aad);
-    let mut message = [0u8; 256];
-    let m = test_lines::bytes(line, a.next, &mut message);
-    let len = m.len;
-    ccm_under(
-        test_lines::prefix(&key, k.len),
-        nonce,
-        aad,
-        &mut message[..len],
-    );
-}
-
-fn ccm_under(key: &[u8], nonce: [u8; 11], aad: [u8; 32], message: &mut [u8])
-    requires { length message.old ≤ 256 }
-{
+pub fn ccm(rt: &HostRuntime, words: &mut Words<'_>) -> io::Result<()> {
+    let word: Word<32> = words.word();
+    let nonce: Word<11> = words.word();
+    let aad: Word<32> = words.word();
+    let mut text: Word<256> = words.word();
+    let key = word.as_slice();
     if aes::is_key_length(key.len()) {
-        ccm_there_and_back(key, nonce, aad, message);
-        return;
+        let len = text.len;
+        ccm_there_and_back(rt, key, nonce.bytes, aad.bytes, &mut text.bytes[..len])?;
     }
-    test_lines::end_line();
+    println!(rt)
 }
 
-fn ccm_there_and_back(key: &[u8], nonce: [u8; 11], aad: [u8; 32], message: &mut [u8])
+// The two modes take nonces and further data of other types, and ask other lengths of them: a rule for both would be longer than either.
+fn ccm_there_and_back(
+    rt: &HostRuntime,
+    key: &[u8],
+    nonce: [u8; 11],
+    aad: [u8; 32],
+    message: &mut [u8],
+) -> io::Result<()>
     requires { (is_key_length (length key.now) ≡ true) × (length message.old ≤ 256) }
 {
     let tag = ccm::seal(key, nonce, aad, message);
-    show_sealed(message, tag);
+    print!(rt; "{} {}", Hex(message), Hex(&tag))?;
     let wrong = ccm::open(key, nonce, aad, damaged(tag), message);
-    show_opened(wrong, message);
+    print!(rt; " {} {}", u8::from(wrong), Hex(message))?;
     let right = ccm::open(key, nonce, aad, tag, message);
-    show_opened(right, message);
-    test_lines::end_line();
+    print!(rt; " {} {}", u8::from(right), Hex(message))
 }
 
 // gcm KEY NONCE AAD TEXT.
-pub fn gcm(line: &[u8]) {
-    let mut key = [0u8; 32];
-    let k = test_lines::bytes(line, test_lines::after_space(line, 0), &mut key);
-    let mut nonce = [0u8; 12];
-    let n = test_lines::bytes(line, k.next, &mut nonce);
-    let mut aad = [0u8; 128];
-    let a = test_lines::bytes(line, n.next, &mut aad);
-    let mut message = [0u8; 256];
-    let m = test_lines::bytes(line, a.next, &mut message);
-    let len = m.len;
-    gcm_under(
-        test_lines::prefix(&key, k.len),
-        nonce,
-        test_lines::prefix(&aad, a.len),
-        &mut message[..len],
-    );
-}
-
-fn gcm_under(key: &[u8], nonce: [u8; 12], aad: &[u8], message: &mut [u8])
-    requires { (length aad.now ≤ 128) × (length message.old ≤ 256) }
-{
+pub fn gcm(rt: &HostRuntime, words: &mut Words<'_>) -> io::Result<()> {
+    let word: Word<32> = words.word();
+    let nonce: Word<12> = words.word();
+    let aad: Word<128> = words.word();
+    let mut text: Word<256> = words.word();
+    let key = word.as_slice();
     if aes::is_key_length(key.len()) {
-        gcm_there_and_back(key, nonce, aad, message);
-        return;
+        let len = text.len;
+        gcm_there_and_back(rt, key, nonce.bytes, aad.as_slice(), &mut text.bytes[..len])?;
     }
-    test_lines::end_line();
+    println!(rt)
 }
 
-fn gcm_there_and_back(key: &[u8], nonce: [u8; 12], aad: &[u8], message: &mut [u8])
+fn gcm_there_and_back(
+    rt: &HostRuntime,
+    key: &[u8],
+    nonce: [u8; 12],
+    aad: &[u8],
+    message: &mut [u8],
+) -> io::Result<()>
     requires { (is_key_length (length key.now) ≡ true) × (length aad.now ≤ 128) × (length message.old ≤ 256) }
 {
     let tag = gcm::seal(key, nonce, aad, message);
-    show_sealed(message, tag);
+    print!(rt; "{} {}", Hex(message), Hex(&tag))?;
     let wrong = gcm::open(key, nonce, aad, damaged(tag), message);
-    show_opened(wrong, message);
+    print!(rt; " {} {}", u8::from(wrong), Hex(message))?;
     let right = gcm::open(key, nonce, aad, tag, message);
-    show_opened(right, message);
-    test_lines::end_line();
+    print!(rt; " {} {}", u8::from(right), Hex(message))
 }

@@ -4,10 +4,12 @@ use mathlib.Core.Path.{◌≡◌, refl, sym, ap, ap₂, ◌∙◌}
 use mathlib.Core.Bool.{Bool, true, false, cond, not, ◌&&◌, ◌||◌}
 use Prim.Native.Nat.{ℕ, ◌+◌, ◌-◌, ◌/◌, ◌%◌, ◌<◌, ◌≤◌}
 use native.Mathlib.Omega.{arith}
-use borrow.Author.Tests.{le-leb, lt-leb, leb-true, eq-eqb, eqb-true, not-true, not-false, lt-ltb}
+use borrow.Author.Tests.{le-leb, lt-leb, leb-true, eq-eqb, ne_eqb, eqb-true}
 use lib.Dec.{leb, ltb, eqb}
 use lib.ListN.{length, drop, length-drop}
-use Rattle.octets.proofs.BoolLaws.{and_true}
+use Rattle.std.proofs.Math.Bool.{and-false}
+use Rattle.std.proofs.lemmas.Bool.Decides.{nat_tests}
+use Rattle.octets.proofs.BoolLaws.{and_true, both}
 use Rattle.trace_format.specs.Format.{Bytes, Edition, edition_of, known, head_in, edition_in, dialect_in, cipher_in, good_file_head, FileReading, file_head}
 use Rattle.trace_format.specs.Format.{bad_file_head, read_file_head_by, read_file_head, kind_in, from_server_in, length_in, admitted, good_head, head, bad_head}
 use Rattle.trace_format.specs.Format.{read_head, size_in, readable}
@@ -24,15 +26,13 @@ module _ (f : Bytes) (long : 4 ≤ length f) (h : ℕ) (is : h ≡ head_in f) wh
   unfolding good_file_head
   file-known b e = rw (le-leb 4 (length f) long) (ap (λ (i : ℕ). known (edition_in i)) (sym is) ∙ e)
 
-  pub file_unknown : (longest : ℕ) → longest ≡ (edition_of (edition_in h)).longest → longest ≡ 0 → bad_file_head ≡ read_file_head f
+  pub file_unknown : known (edition_in h) ≡ false → bad_file_head ≡ read_file_head f
   unfolding read_file_head_by
-  file_unknown l e z = rw (file-known false (ap (ltb 0) (sym e ∙ z)))
+  file_unknown k = rw (file-known false k)
 
-  pub file-good : (longest : ℕ) → longest ≡ (edition_of (edition_in h)).longest → (longest ≡ 0 → ⊥)
-      → file_head (edition_in h) (dialect_in h) (cipher_in h) ≡ read_file_head f
+  pub file-good : known (edition_in h) ≡ true → file_head (edition_in h) (dialect_in h) (cipher_in h) ≡ read_file_head f
   unfolding read_file_head_by
-  file-good l e n =
-      rw (file-known true (ap (ltb 0) (sym e) ∙ lt-ltb 0 l (omega arith))) (ap (λ (i : ℕ). file_head (edition_in i) (dialect_in i) (cipher_in i)) is)
+  file-good k = rw (file-known true k) (ap (λ (i : ℕ). file_head (edition_in i) (dialect_in i) (cipher_in i)) is)
 
 -- ---- the head of a record
 
@@ -40,28 +40,39 @@ pub head-short : (e : Edition) (s : Bytes) → length s < 4 → bad_head ≡ rea
 unfolding read_head good_head
 head-short e s h = rw (lt-leb 4 (length s) h)
 
-module _ (e : Edition) (s : Bytes) (long : 4 ≤ length s) (h : ℕ) (is : h ≡ head_in s) where
-  head_is : (b : Bool) → (eqb (h % e.unit) 0 && admitted e (kind_in h) (length_in e h)) ≡ b → good_head e s ≡ b
-  unfolding good_head
-  head_is b t = rw (le-leb 4 (length s) long) (ap (λ (i : ℕ). eqb (i % e.unit) 0 && admitted e (kind_in i) (length_in e i)) (sym is) ∙ t)
+-- under an edition that is not known no payload has a length that is admitted
+none_admitted : (e : Edition) (k n : ℕ) → ltb 0 e.longest ≡ false → admitted e k n ≡ false
+none_admitted e k n u = grind (arith, nat_tests)
 
+pub head-unknown : (n : ℕ) (s : Bytes) → known n ≡ false → bad_head ≡ read_head (edition_of n) s
+unfolding read_head good_head
+head-unknown n s u =
+    let e = edition_of n in
+    let none = none_admitted e (kind_in (head_in s)) (length_in e (head_in s)) u in
+    rw (none, and-false (eqb (head_in s % e.unit) 0), and-false (leb 4 (length s)))
+
+module _ (e : Edition) (s : Bytes) (long : 4 ≤ length s) (h : ℕ) (is : h ≡ head_in s) (unit : ℕ) (its : unit ≡ e.unit) where
   -- as the code judges it: by the edition's unit, and whether kind and length are admitted
-  module _ (unit : ℕ) (its : unit ≡ e.unit) (admits : Bool) (said : admits ≡ admitted e (kind_in h) (h % 268435456 / unit)) where
-    judged : (eqb (h % e.unit) 0 && admitted e (kind_in h) (length_in e h)) ≡ (eqb (h % unit) 0 && admits)
-    judged =
-        ap (λ (u : ℕ). eqb (h % u) 0 && admitted e (kind_in h) (h % 268435456 / u)) (sym its)
-        ∙ ap (λ (b : Bool). eqb (h % unit) 0 && b) (sym said)
+  judged : (b : Bool) → (eqb (h % unit) 0 && admitted e (kind_in h) (h % 268435456 / unit)) ≡ b → good_head e s ≡ b
+  unfolding good_head
+  judged b t =
+      rw (le-leb 4 (length s) long)
+      (ap₂ (λ (i u : ℕ). eqb (i % u) 0 && admitted e (kind_in i) (i % 268435456 / u)) (sym is) (sym its) ∙ t)
 
-    pub head_bad : not (eqb (h % unit) 0 && admits) ≡ true → bad_head ≡ read_head e s
-    unfolding read_head
-    head_bad t = rw (head_is false (judged ∙ not-true _ t))
+  pub head_spare : (h % unit ≡ 0 → ⊥) → bad_head ≡ read_head e s
+  unfolding read_head
+  head_spare n = rw (judged false (ap (λ (b : Bool). b && admitted e (kind_in h) (h % 268435456 / unit)) (ne_eqb (h % unit) 0 n)))
 
-    pub head-good : not (eqb (h % unit) 0 && admits) ≡ false → head (kind_in h) (from_server_in h) (h % 268435456 / unit) ≡ read_head e s
+  module _ (admits : Bool) (said : admits ≡ admitted e (kind_in h) (h % 268435456 / unit)) where
+    pub head_bad : admits ≡ false → bad_head ≡ read_head e s
     unfolding read_head
-    head-good t =
-        rw (head_is true (judged ∙ not-false _ t))
-        (ap (λ (u : ℕ). head (kind_in h) (from_server_in h) (h % 268435456 / u)) its
-        ∙ ap (λ (i : ℕ). head (kind_in i) (from_server_in i) (length_in e i)) is)
+    head_bad t = rw (judged false (ap (λ (b : Bool). eqb (h % unit) 0 && b) (sym said ∙ t) ∙ and-false (eqb (h % unit) 0)))
+
+    pub head-good : h % unit ≡ 0 → admits ≡ true → head (kind_in h) (from_server_in h) (h % 268435456 / unit) ≡ read_head e s
+    unfolding read_head
+    head-good z t =
+        rw (judged true (both (eqb (h % unit) 0) _ (eq-eqb (h % unit) 0 z) (sym said ∙ t)))
+        (ap₂ (λ (i u : ℕ). head (kind_in i) (from_server_in i) (i % 268435456 / u)) is its)
 
 -- ---- a record, from its head
 

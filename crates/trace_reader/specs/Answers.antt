@@ -1,22 +1,21 @@
--- The enums of the code, read as the readings of the format: RULES 16.
+-- What the code answers, read as the readings of the format: RULES 16.
 -- Assumes nothing.
+use Rattle.std.specs.Prelude.{Option, Some, None, Result, Ok, Err}
 use Rattle.trace_format.specs.Format.{FileReading, file_head, bad_file_head, HeadReading, head, bad_head, Reading, found, end, unreadable}
+use Rattle.trace_format.specs.declared.Unreadable.{Unreadable}
 use Rattle.trace_reader.specs.declared.FileHead.{FileHead}
-use Rattle.trace_reader.specs.declared.FileHead.TheVariants as file
 use Rattle.trace_reader.specs.declared.Head.{Head}
-use Rattle.trace_reader.specs.declared.Head.TheVariants as one
-use Rattle.trace_reader.specs.declared.Read.{Read}
-use Rattle.trace_reader.specs.declared.Read.TheVariants as at
+use Rattle.trace_reader.specs.declared.Record.{Record}
 
-abbrev pub file_reading_of : FileHead → FileReading
-file_reading_of (file.Good e d c) = file_head e d c
-file_reading_of file.Unreadable = bad_file_head
+abbrev pub file_reading_of : Result FileHead Unreadable → FileReading
+file_reading_of (Ok h) = file_head h.edition h.dialect h.cipher
+file_reading_of (Err e) = bad_file_head
 
-abbrev pub head_reading_of : Head → HeadReading
-head_reading_of (one.Good k d n) = head k d n
-head_reading_of one.Unreadable = bad_head
+abbrev pub head_reading_of : Result Head Unreadable → HeadReading
+head_reading_of (Ok h) = head h.kind h.from_server h.len
+head_reading_of (Err e) = bad_head
 
-abbrev pub reading_of : Read → Reading
-reading_of (at.Record k d p n q) = found k d p n q
-reading_of at.End = end
-reading_of at.Unreadable = unreadable
+abbrev pub reading_of : Result (Option Record) Unreadable → Reading
+reading_of (Ok (Some r)) = found r.kind r.from_server r.start r.len r.next
+reading_of (Ok None) = end
+reading_of (Err e) = unreadable

@@ -5,136 +5,106 @@ ghost use Rattle.std.specs.Prelude.{◌≡◌};
 ghost use Rattle.trace_format.specs.Format.{edition_of, read_file_head, read_head, read_at, read_in};
 ghost use Rattle.trace_reader.specs.Answers.{file_reading_of, head_reading_of, reading_of};
 
-use big_endian::u32_at;
-use trace_format::{admits, layout_of};
+use big_endian::number_at;
+pub use trace_format::Unreadable;
+use trace_format::layout_of;
 
-#[derive(Clone, Copy)]
-pub enum FileHead {
-    Good {
-        edition: u8,
-        dialect: u16,
-        cipher: u8,
-    },
-    // 36
-    Unreadable,
+#[derive(Clone, Copy, Debug, PartialEq, Eq)]
+pub struct FileHead {
+    pub edition: u8,
+    pub dialect: u16,
+    pub cipher: u8,
 }
 
-#[derive(Clone, Copy)]
-pub enum Head {
-    // len is the length of the payload.
-    Good {
-        kind: u8,
-        from_server: bool,
-        len: usize,
-    },
-    // 36
-    Unreadable,
+// The payload has len bytes. Kind and edition stay numbers: C is told them, and `read_head`, `lab_steps::step` and `Layout::admits` answer for any.
+#[derive(Clone, Copy, Debug, PartialEq, Eq)]
+pub struct Head {
+    pub kind: u8,
+    pub from_server: bool,
+    pub len: usize,
 }
 
-#[derive(Clone, Copy)]
-pub enum Read {
-    // The payload is len bytes from start on; the next record begins at next.
-    Record {
-        kind: u8,
-        from_server: bool,
-        start: usize,
-        len: usize,
-        next: usize,
-    },
-    // No byte is left.
-    End,
-    // 36
-    Unreadable,
-}
-
-fn wide(x: u32) -> usize
-    ensures { result ≡ x }
-{
-    x as usize
+// The payload is len bytes from start on; the next record begins at next.
+#[derive(Clone, Copy, Debug, PartialEq, Eq)]
+pub struct Record {
+    pub kind: u8,
+    pub from_server: bool,
+    pub start: usize,
+    pub len: usize,
+    pub next: usize,
 }
 
 // The head of a file that begins with these bytes.
-pub fn read_file_head(b: &[u8]) -> FileHead
+pub fn read_file_head(b: &[u8]) -> Result<FileHead, Unreadable>
     ensures { file_reading_of result ≡ read_file_head b.now }
 {
     if b.len() < 4 {
-        return FileHead::Unreadable;
+        return Err(Unreadable);
     }
-    let h = u32_at(b, 0);
+    let h = number_at::<4>(b, 0);
     let edition = (h / 16777216) as u8;
-    let l = layout_of(edition);
-    let unknown = l.longest == 0;
+    let unknown = layout_of(edition).is_none();
     if unknown {
-        return FileHead::Unreadable;
+        return Err(Unreadable);
     }
-    FileHead::Good {
-        edition: edition,
+    Ok(FileHead {
+        edition,
         dialect: (h / 256 % 65536) as u16,
         cipher: (h % 256) as u8,
-    }
+    })
 }
 
 // The head of a record that begins with these bytes: four are enough, and the payload need not be there.
-pub fn read_head(edition: u8, b: &[u8]) -> Head
+pub fn read_head(edition: u8, b: &[u8]) -> Result<Head, Unreadable>
     ensures { head_reading_of result ≡ read_head (edition_of edition) b.now }
 {
+    let layout = layout_of(edition).ok_or(Unreadable)?;
     if b.len() < 4 {
-        return Head::Unreadable;
+        return Err(Unreadable);
     }
-    let l = layout_of(edition);
-    let unit = l.unit;
-    let h = wide(u32_at(b, 0));
+    let unit = layout.unit;
+    let h = number_at::<4>(b, 0) as usize;
     let kind = h / 536870912;
     let len = h % 268435456 / unit;
-    if !((h % unit == 0) & admits(l, kind, len)) {
-        return Head::Unreadable;
+    let spare = h % unit;
+    if spare != 0 {
+        return Err(Unreadable);
     }
-    Head::Good {
+    if !layout.admits(kind, len) {
+        return Err(Unreadable);
+    }
+    Ok(Head {
         kind: kind as u8,
         from_server: h / 268435456 % 2 == 1,
-        len: len,
-    }
+        len,
+    })
 }
 
-// The record at a place of a file.
-pub fn read_record(edition: u8, file: &[u8], at: usize) -> Read
+// The record at a place of a file. No byte left is the end, and no record.
+pub fn read_record(edition: u8, file: &[u8], at: usize) -> Result<Option<Record>, Unreadable>
     ensures { reading_of result ≡ read_at (edition_of edition) file.now at }
 {
     if file.len() <= at {
-        return Read::End;
+        return Ok(None);
     }
-    let Head::Good {
-        kind,
-        from_server,
-        len,
-    } = read_head(edition, &file[at..])
-    else {
-        return Read::Unreadable;
-    };
+    let head = read_head(edition, &file[at..])?;
     // a head was read, so that four bytes are there; this difference does not wrap, where the sum at + 4 + len could
-    if file.len() - at - 4 < len {
-        return Read::Unreadable;
+    if file.len() - at - 4 < head.len {
+        return Err(Unreadable);
     }
-    Read::Record {
-        kind: kind,
-        from_server: from_server,
+    Ok(Some(Record {
+        kind: head.kind,
+        from_server: head.from_server,
         start: at + 4,
-        len: len,
-        next: at + 4 + len,
-    }
+        len: head.len,
+        next: at + 4 + head.len,
+    }))
 }
 
 // The record at a place of a file that begins with its head. Under a bad head no place can be read.
-pub fn read_in(file: &[u8], at: usize) -> Read
+pub fn read_in(file: &[u8], at: usize) -> Result<Option<Record>, Unreadable>
     ensures { reading_of result ≡ read_in file.now at }
 {
-    let FileHead::Good {
-        edition,
-        dialect: _,
-        cipher: _,
-    } = read_file_head(file)
-    else {
-        return Read::Unreadable; // at every place
-    };
-    read_record(edition, file, at)
+    let head = read_file_head(file)?;
+    read_record(head.edition, file, at)
 }

@@ -7,16 +7,19 @@ use mathlib.Core.List.{◌∷◌}
 use Prim.Native.Nat.{ℕ, suc, ◌+◌, ◌-◌, ◌<◌, ◌≤◌}
 use native.Mathlib.Numerals.{add-one}
 use native.Mathlib.Omega.{arith}
-use borrow.Author.Tests.{leb-true}
+use borrow.Author.Tests.{leb-true, le-leb, lt-leb}
 use lib.Dec.{leb}
 use lib.ListN.{length, take, drop, get_or, length-drop, drop_of_length-le}
 use lib.Seq.{drop-cons, drop-drop}
-use Rattle.trace_format.specs.Format.{Bytes, Edition, size_in, readable, Reading, found, end, unreadable, read_at}
+use Rattle.trace_format.specs.Format.{Bytes, Edition, head_in, length_in, readable, Reading, found, end, unreadable, read_at}
 use Rattle.trace_reader.specs.Answers.{reading_of}
-use Rattle.trace_reader.specs.declared.Read.{Read}
-use Rattle.trace_reader.specs.declared.Read.TheVariants as at
-use Rattle.trace_format.proofs.FormatLaws.{Was, readable-good}
+use Rattle.trace_format.specs.declared.Unreadable.{Unreadable}
+use Rattle.trace_reader.specs.declared.Record.{Record}
+use Rattle.std.specs.Result.{result_unwrap_or}
+use Rattle.std.proofs.Common.{Option, Some, None, Result, Ok, Err}
+use Rattle.trace_format.proofs.FormatLaws.{was, readable-good}
 use Rattle.trace_rescue.specs.Rescue.{begins_message, is_found, passed}
+use Rattle.trace_rescue.specs.Answers.{IsRecord, RecordAt}
 
 -- ---- what a reading says of the bytes
 
@@ -40,34 +43,44 @@ module _ (e : Edition) (f : Bytes) (p : ℕ) where
       by false q = refl
 
   -- it was no record
-  pub was_not : (r : Read) → reading_of r ≡ read_at e f p → ((k : ℕ) (d : Bool) (start n next : ℕ) → r ≡ at.Record k d start n next → ⊥) → readable e (drop p f) ≡ false
+  pub was_not : (r : Result (Option Record) Unreadable) → reading_of r ≡ read_at e f p → ((x : Record) → r ≡ Ok (Some x) → ⊥) → readable e (drop p f) ≡ false
   unfolding read_at
-  was_not (at.Record k d start n next) t o = absurd (o k d start n next refl)
-  was_not at.End t o = ended (leb (length f) p) (readable e (drop p f)) end _ _ _ _ _ (λ q. none_left (leb-true (length f) p q)) (inl refl) (sym t)
-  was_not at.Unreadable t o =
+  was_not (Ok (Some x)) t o = absurd (o x refl)
+  was_not (Ok None) t o = ended (leb (length f) p) (readable e (drop p f)) end _ _ _ _ _ (λ q. none_left (leb-true (length f) p q)) (inl refl) (sym t)
+  was_not (Err u) t o =
       ended (leb (length f) p) (readable e (drop p f)) unreadable _ _ _ _ _ (λ q. none_left (leb-true (length f) p q)) (inr refl) (sym t)
 
   pub not_found : readable e (drop p f) ≡ false → false ≡ is_found e (drop p f)
   unfolding is_found
   not_found t = rw t
 
-  pub no_size : readable e (drop p f) ≡ false → 0 ≡ cond (readable e (drop p f)) (size_in e (drop p f)) 0
-  no_size t = rw t
+  -- what the reader answered, as the record at the place
+  pub record_there : (r : Result (Option Record) Unreadable) → reading_of r ≡ read_at e f p → RecordAt e f p (result_unwrap_or r None)
+  record_there (Ok (Some x)) t =
+      let w = was e f p _ _ _ _ _ t in
+      let n = w.next in
+      let z = w.size in
+      let i = w.inside in
+      record { can_be_read = w.is_readable; its_kind = sym w.kind; from = w.from; to = omega arith; inside = omega arith }
+  record_there (Ok None) t = was_not (Ok None) t (λ x q. cc)
+  record_there (Err u) t = was_not (Err u) t (λ x q. cc)
 
-  module _ (k start n next : ℕ) (w : Was e f p k start n next) where
-    -- whether the reader takes up again here, by the payload as the code lends it
-    pub judged : (b : Bool) → b ≡ begins_message (take (next - start) (drop start f)) → (leb k 2 && b) ≡ is_found e (drop p f)
+  -- whether the reader takes up again here, by the payload as the code lends it
+  module _ (r : Record) (is : IsRecord e f p r) where
+    judged : is_found e (drop p f) ≡ (leb r.kind 2 && begins_message (take (r.next - r.start) (drop r.start f)))
     unfolding is_found
-    judged b t =
-        let from = w.from in
-        let to = w.next in
-        let len : next - start ≡ n = omega arith in
-        let payload =
-        ap₂ (λ (i : ℕ) (x : Bytes). begins_message (take i x)) (len ∙ sym w.size) (ap (λ (i : ℕ). drop i f) from ∙ sym (drop-drop 4 p f)) in
-        rw w.is_readable (ap₂ (λ (i : ℕ) (x : Bool). leb i 2 && x) (sym w.kind) (t ∙ payload))
+    judged =
+        let from = is.from in
+        let to = is.to in
+        let len : length_in e (head_in (drop p f)) ≡ r.next - r.start = omega arith in
+        let payload = ap₂ (λ (i : ℕ) (x : Bytes). begins_message (take i x)) len (drop-drop 4 p f ∙ ap (λ (i : ℕ). drop i f) (sym from)) in
+        rw is.can_be_read (ap₂ (λ (i : ℕ) (x : Bool). leb i 2 && x) (sym is.its_kind) payload)
 
-    pub the_size : 4 + n ≡ cond (readable e (drop p f)) (size_in e (drop p f)) 0
-    the_size = rw w.is_readable (ap (λ (i : ℕ). 4 + i) (sym w.size))
+    pub found_by_mark : (b : Bool) → b ≡ begins_message (take (r.next - r.start) (drop r.start f)) → r.kind ≤ 2 → b ≡ is_found e (drop p f)
+    found_by_mark b t k = rw (judged, le-leb r.kind 2 k) t
+
+    pub not_by_kind : 2 < r.kind → leb r.kind 2 ≡ is_found e (drop p f)
+    not_by_kind k = rw (judged, lt-leb r.kind 2 k)
 
 -- ---- the search
 
@@ -86,12 +99,13 @@ module _ (e : Edition) (f : Bytes) where
   seek_begins from h = record { low = omega arith; high = h; same = refl }
 
   module _ (from p : ℕ) (s : Seeking from p) where
-    pub seek_end : length f ≤ p → p - from ≡ passed e (drop from f)
+    pub seek_end : length f ≤ p → length f - from ≡ passed e (drop from f)
     unfolding passed
     seek_end h =
         let z : passed e (drop p f) ≡ 0 = ap (passed e) (drop_of_length-le f {i = p} h) in
         let a = s.same in
         let b = s.low in
+        let d = s.high in
         omega arith
 
     module _ (t : Bool) (inside : p < length f) (says : t ≡ is_found e (drop p f)) where

@@ -12,8 +12,7 @@ use Rattle.trace_format.specs.Format.{Bytes, Edition, size_in, readable}
 use Rattle.trace_format.proofs.ByteLaws.{paste_two}
 use Rattle.trace_format.proofs.FormatLaws.{readable-good}
 use Rattle.trace_rescue.specs.Rescue.{is_found, passed, Piece, kept, dropped, piece_length, piece_in, pieces_some, pieces, kept_bytes, gap_numbers, gap_count}
-use Rattle.trace_rescue.specs.Answers.{Cuts, Measured, Fits, Writes}
-use Rattle.trace_rescue.specs.declared.cut.Cut.{Cut}
+use Rattle.trace_rescue.specs.Answers.{CutsInto, Measured, Fits, Writes}
 
 -- ---- a piece has a byte, and is inside
 
@@ -51,50 +50,18 @@ piece_bounds e s h = bounds e s (readable e s) refl h
 
 -- ---- the piece at a place, as the code cuts it
 
-module _ (e : Edition) (f : Bytes) (p : ℕ) (here : p < length f) (n : ℕ) (says : n ≡ cond (readable e (drop p f)) (size_in e (drop p f)) 0) where
-  some_left : 0 < length (drop p f)
-  some_left = let l = length-drop p f in omega arith
-
-  size_says : (t : Bool) → readable e (drop p f) ≡ t → n ≡ cond t (size_in e (drop p f)) 0
-  size_says t q = says ∙ ap (λ (u : Bool). cond u (size_in e (drop p f)) 0) q
-
-  is_kept : (n ≡ 0 → ⊥) → readable e (drop p f) ≡ true
-  is_kept h = by (readable e (drop p f)) refl
-    where
-      by : (t : Bool) → readable e (drop p f) ≡ t → t ≡ true
-      by true q = refl
-      by false q = absurd (h (size_says false q))
-
-  is_dropped : n ≡ 0 → readable e (drop p f) ≡ false
-  is_dropped z = by (readable e (drop p f)) refl
-    where
-      by : (t : Bool) → readable e (drop p f) ≡ t → t ≡ false
-      by true q = let s = size_says true q in absurd (omega arith)
-      by false q = refl
-
-  cuts : (t : Bool) (m : ℕ) → readable e (drop p f) ≡ t → m ≡ piece_length e (drop p f) → Cuts e f p (record { good = t; len = m })
-  cuts t m q em =
-      let b = piece_bounds e (drop p f) some_left in
+module _ (e : Edition) (f : Bytes) (p : ℕ) (here : p < length f) where
+  cuts : (t : Bool) (n : ℕ) → readable e (drop p f) ≡ t → n ≡ piece_length e (drop p f) → CutsInto e f p t n
+  cuts t n q en =
+      let b = piece_bounds e (drop p f) (omega (arith, length-drop p f)) in
       let l = length-drop p f in
-      let b0 = b.0 in
-      let b1 = b.1 in
-      record { good = sym q; len = em; some = omega arith; inside = omega arith }
+      record { its_kind = sym q; its_length = en; some = omega arith; inside = omega arith }
 
-  pub cut_kept : (n ≡ 0 → ⊥) → Cuts e f p (record { good = true; len = n })
-  cut_kept h = let q = is_kept h in cuts true n q (size_says true q ∙ sym (kept-length e (drop p f) q))
+  pub cut_record : (n : ℕ) → readable e (drop p f) ≡ true → n ≡ size_in e (drop p f) → CutsInto e f p true n
+  cut_record n q en = cuts true n q (en ∙ sym (kept-length e (drop p f) q))
 
-  module _ (m : ℕ) (after : m ≡ passed e (drop (p + 1) f)) (z : n ≡ 0) where
-    pub cut_dropped : Cuts e f p (record { good = false; len = m + 1 })
-    cut_dropped =
-        let q = is_dropped z in
-        cuts false (m + 1) q
-        (ap (λ (i : ℕ). i + 1) (after ∙ ap (passed e) (sym (drop-drop 1 p f))) ∙ sym (dropped-length e (drop p f) q))
-
-    pub cut_fits : m + 1 ≤ length f
-    cut_fits =
-        let i = passed-inside e (drop (p + 1) f) in
-        let l = length-drop (p + 1) f in
-        omega arith
+  pub cut_gap : (m : ℕ) → readable e (drop p f) ≡ false → m ≡ passed e (drop (p + 1) f) → CutsInto e f p false (m + 1)
+  cut_gap m q em = cuts false (m + 1) q (ap (λ (i : ℕ). i + 1) (em ∙ ap (passed e) (sym (drop-drop 1 p f))) ∙ sym (dropped-length e (drop p f) q))
 
 -- ---- the list of pieces
 
@@ -133,58 +100,55 @@ length-gap_numbers p (dropped b ∷ ps) = let h = length-gap_numbers (p + length
 
 -- ---- a turn of either pass: the piece c at place p
 
-module _ (e : Edition) (f : Bytes) (p : ℕ) (here : p < length f) (c : Cut) (cut : Cuts e f p c) where
-  abbrev n : ℕ
-  n = c.len
-
+module _ (e : Edition) (f : Bytes) (p : ℕ) (here : p < length f) (t : Bool) (n : ℕ) (cut : CutsInto e f p t n) where
   abbrev b : Bytes
-  b = take c.len (drop p f)
+  b = take n (drop p f)
 
-  pub b-length : length b ≡ c.len
+  pub b-length : length b ≡ n
   b-length =
       let l = length-drop p f in
       let i = cut.inside in
       simp length-take (omega arith)
 
-  on : (t : Bool) → c.good ≡ t → pieces e (drop p f) ≡ cond t (kept b) (dropped b) ∷ pieces e (drop (p + c.len) f)
-  on t q =
+  on : pieces e (drop p f) ≡ cond t (kept b) (dropped b) ∷ pieces e (drop (p + n) f)
+  on =
       let l = length-drop p f in
       pieces-on e (drop p f) (omega arith)
       ∙ ap₂ (λ (x : Piece) (y : List Piece). x ∷ y)
-      (ap₂ (λ (u : Bool) (i : ℕ). cond u (kept (take i (drop p f))) (dropped (take i (drop p f)))) (sym cut.good ∙ q) (sym cut.len))
-      (ap (pieces e) (ap (λ (i : ℕ). drop i (drop p f)) (sym cut.len) ∙ drop-drop c.len p f))
+      (ap₂ (λ (u : Bool) (i : ℕ). cond u (kept (take i (drop p f))) (dropped (take i (drop p f)))) (sym cut.its_kind) (sym cut.its_length))
+      (ap (pieces e) (ap (λ (i : ℕ). drop i (drop p f)) (sym cut.its_length) ∙ drop-drop n p f))
 
-  pub on-kept : c.good ≡ true → pieces e (drop p f) ≡ kept b ∷ pieces e (drop (p + c.len) f)
-  on-kept q = on true q
+  pub on-kept : t ≡ true → pieces e (drop p f) ≡ kept b ∷ pieces e (drop (p + n) f)
+  on-kept q = on ∙ ap (λ (u : Bool). cond u (kept b) (dropped b) ∷ pieces e (drop (p + n) f)) q
 
-  pub on-dropped : c.good ≡ false → pieces e (drop p f) ≡ dropped b ∷ pieces e (drop (p + c.len) f)
-  on-dropped q = on false q
+  pub on-dropped : t ≡ false → pieces e (drop p f) ≡ dropped b ∷ pieces e (drop (p + n) f)
+  on-dropped q = on ∙ ap (λ (u : Bool). cond u (kept b) (dropped b) ∷ pieces e (drop (p + n) f)) q
 
   -- what the piece adds to what is written
-  pub kept-bytes : c.good ≡ true → kept_bytes (pieces e (drop p f)) ≡ b ++ kept_bytes (pieces e (drop (p + c.len) f))
+  pub kept-bytes : t ≡ true → kept_bytes (pieces e (drop p f)) ≡ b ++ kept_bytes (pieces e (drop (p + n) f))
   unfolding kept_bytes
   kept-bytes q = ap kept_bytes (on-kept q)
 
-  pub kept-count : c.good ≡ true → gap_count (pieces e (drop p f)) ≡ gap_count (pieces e (drop (p + c.len) f))
+  pub kept-count : t ≡ true → gap_count (pieces e (drop p f)) ≡ gap_count (pieces e (drop (p + n) f))
   unfolding gap_count
   kept-count q = ap gap_count (on-kept q)
 
-  pub kept_numbers : c.good ≡ true → gap_numbers p (pieces e (drop p f)) ≡ gap_numbers (p + c.len) (pieces e (drop (p + c.len) f))
+  pub kept_numbers : t ≡ true → gap_numbers p (pieces e (drop p f)) ≡ gap_numbers (p + n) (pieces e (drop (p + n) f))
   unfolding gap_numbers
-  kept_numbers q = ap (gap_numbers p) (on-kept q) ∙ ap (λ (i : ℕ). gap_numbers (p + i) (pieces e (drop (p + c.len) f))) b-length
+  kept_numbers q = ap (gap_numbers p) (on-kept q) ∙ ap (λ (i : ℕ). gap_numbers (p + i) (pieces e (drop (p + n) f))) b-length
 
-  pub dropped-bytes : c.good ≡ false → kept_bytes (pieces e (drop p f)) ≡ kept_bytes (pieces e (drop (p + c.len) f))
+  pub dropped-bytes : t ≡ false → kept_bytes (pieces e (drop p f)) ≡ kept_bytes (pieces e (drop (p + n) f))
   unfolding kept_bytes
   dropped-bytes q = ap kept_bytes (on-dropped q)
 
-  pub dropped-count : c.good ≡ false → gap_count (pieces e (drop p f)) ≡ gap_count (pieces e (drop (p + c.len) f)) + 1
+  pub dropped-count : t ≡ false → gap_count (pieces e (drop p f)) ≡ gap_count (pieces e (drop (p + n) f)) + 1
   unfolding gap_count
   dropped-count q = ap gap_count (on-dropped q)
 
-  pub dropped_numbers : c.good ≡ false
-      → gap_numbers p (pieces e (drop p f)) ≡ (p ∷ c.len ∷ []) ++ gap_numbers (p + c.len) (pieces e (drop (p + c.len) f))
+  pub dropped_numbers : t ≡ false
+      → gap_numbers p (pieces e (drop p f)) ≡ (p ∷ n ∷ []) ++ gap_numbers (p + n) (pieces e (drop (p + n) f))
   unfolding gap_numbers
-  dropped_numbers q = ap (gap_numbers p) (on-dropped q) ∙ ap (λ (i : ℕ). p ∷ i ∷ gap_numbers (p + i) (pieces e (drop (p + c.len) f))) b-length
+  dropped_numbers q = ap (gap_numbers p) (on-dropped q) ∙ ap (λ (i : ℕ). p ∷ i ∷ gap_numbers (p + i) (pieces e (drop (p + n) f))) b-length
 
 -- nothing left
 pub no_pieces : (e : Edition) (f : Bytes) (p : ℕ) → length f ≤ p → pieces e (drop p f) ≡ []
@@ -215,12 +179,12 @@ module _ (e : Edition) (f : Bytes) where
         let y = m.gaps_all in
         record { kept = omega arith; gaps = omega arith }
 
-    module _ (here : p < length f) (c : Cut) (cut : Cuts e f p c) where
-      pub measure_kept : c.good ≡ true → Measuring (p + c.len) (bytes + c.len) gaps
+    module _ (here : p < length f) (t : Bool) (n : ℕ) (cut : CutsInto e f p t n) where
+      pub measure_kept : t ≡ true → Measuring (p + n) (bytes + n) gaps
       measure_kept q =
-          let l = ap length (kept-bytes e f p here c cut q) ∙ length-append (take c.len (drop p f)) (kept_bytes (pieces e (drop (p + c.len) f))) in
-          let k = b-length e f p here c cut in
-          let g = kept-count e f p here c cut q in
+          let l = ap length (kept-bytes e f p here t n cut q) ∙ length-append (take n (drop p f)) (kept_bytes (pieces e (drop (p + n) f))) in
+          let k = b-length e f p here t n cut in
+          let g = kept-count e f p here t n cut q in
           let x = m.bytes_all in
           let y = m.gaps_all in
           let s = m.small in
@@ -228,10 +192,10 @@ module _ (e : Edition) (f : Bytes) where
           let i = cut.inside in
           record { high = i; small = omega arith; few = omega arith; bytes_all = omega arith; gaps_all = omega arith }
 
-      pub measure_dropped : c.good ≡ false → Measuring (p + c.len) bytes (gaps + 1)
+      pub measure_dropped : t ≡ false → Measuring (p + n) bytes (gaps + 1)
       measure_dropped q =
-          let l = ap length (dropped-bytes e f p here c cut q) in
-          let g = dropped-count e f p here c cut q in
+          let l = ap length (dropped-bytes e f p here t n cut q) in
+          let g = dropped-count e f p here t n cut q in
           let x = m.bytes_all in
           let y = m.gaps_all in
           let s = m.small in
@@ -285,27 +249,27 @@ module _ (e : Edition) (f room₀ list₀ : Bytes) where
               ∙ m.list_due;
         }
 
-    module _ (here : p < length f) (c : Cut) (cut : Cuts e f p c) where
+    module _ (here : p < length f) (t : Bool) (n : ℕ) (cut : CutsInto e f p t n) where
       abbrev piece : Bytes
-      piece = take c.len (drop p f)
+      piece = take n (drop p f)
 
       abbrev left : List Piece
-      left = pieces e (drop (p + c.len) f)
+      left = pieces e (drop (p + n) f)
 
-      length-left : c.good ≡ true → length (kept_bytes (pieces e (drop p f))) ≡ c.len + length (kept_bytes left)
+      length-left : t ≡ true → length (kept_bytes (pieces e (drop p f))) ≡ n + length (kept_bytes left)
       length-left q =
-          ap length (kept-bytes e f p here c cut q) ∙ length-append piece (kept_bytes left)
-          ∙ ap (λ (i : ℕ). i + length (kept_bytes left)) (b-length e f p here c cut)
+          ap length (kept-bytes e f p here t n cut q) ∙ length-append piece (kept_bytes left)
+          ∙ ap (λ (i : ℕ). i + length (kept_bytes left)) (b-length e f p here t n cut)
 
-      pub place-room : c.good ≡ true → w + c.len ≤ length room
+      pub place-room : t ≡ true → w + n ≤ length room
       place-room q = let l = length-left q in let r = m.room-left in omega arith
 
-      pub place_kept : c.good ≡ true → (room' : Bytes) → room' ≡ paste room w piece (length piece) → Placing (p + c.len) (w + c.len) k room' list
+      pub place_kept : t ≡ true → (room' : Bytes) → room' ≡ paste room w piece (length piece) → Placing (p + n) (w + n) k room' list
       place_kept q room' er =
           let l = length-left q in
-          let lb = b-length e f p here c cut in
+          let lb = b-length e f p here t n cut in
           let r = m.room-left in
-          let g = kept-count e f p here c cut q in
+          let g = kept-count e f p here t n cut q in
           let gl = m.list_left in
           let rl = m.room-length in
           let same : length room' ≡ length room = ap length er ∙ length-paste room w piece (length piece) (omega arith) (omega arith) in
@@ -318,50 +282,50 @@ module _ (e : Edition) (f room₀ list₀ : Bytes) where
             room_due =
                 ap₂ (λ (x : Bytes) (i : ℕ). paste x (w + i) (kept_bytes left) (length (kept_bytes left))) er (sym lb)
                 ∙ paste_two room w piece (kept_bytes left) (omega arith)
-                ∙ ap (λ (x : Bytes). paste room w x (length x)) (sym (kept-bytes e f p here c cut q))
+                ∙ ap (λ (x : Bytes). paste room w x (length x)) (sym (kept-bytes e f p here t n cut q))
                 ∙ m.room_due;
-            list_due = ap (λ (x : List ℕ). paste list (2 * k) x (length x)) (sym (kept_numbers e f p here c cut q)) ∙ m.list_due;
+            list_due = ap (λ (x : List ℕ). paste list (2 * k) x (length x)) (sym (kept_numbers e f p here t n cut q)) ∙ m.list_due;
           }
 
       -- the part of the file as the code lends it
-      pub part : (q : ℕ) → q ≡ p + c.len → take (q - p) (drop p f) ≡ piece
-      part q e' = let i : q - p ≡ c.len = omega arith in ap (λ (j : ℕ). take j (drop p f)) i
+      pub part : (q : ℕ) → q ≡ p + n → take (q - p) (drop p f) ≡ piece
+      part q e' = let i : q - p ≡ n = omega arith in ap (λ (j : ℕ). take j (drop p f)) i
 
-      pub place-copied : c.good ≡ true → (room' : Bytes)
-          → room' ≡ paste room w (take (p + c.len - p) (drop p f)) (length (take (p + c.len - p) (drop p f))) → Placing (p + c.len) (w + c.len) k room' list
-      place-copied q room' er = place_kept q room' (er ∙ ap (λ (x : Bytes). paste room w x (length x)) (part (p + c.len) refl))
+      pub place-copied : t ≡ true → (room' : Bytes)
+          → room' ≡ paste room w (take (p + n - p) (drop p f)) (length (take (p + n - p) (drop p f))) → Placing (p + n) (w + n) k room' list
+      place-copied q room' er = place_kept q room' (er ∙ ap (λ (x : Bytes). paste room w x (length x)) (part (p + n) refl))
 
-      pub place-fits : c.good ≡ true → w + length (take (p + c.len - p) (drop p f)) ≤ length room
+      pub place-fits : t ≡ true → w + length (take (p + n - p) (drop p f)) ≤ length room
       place-fits q =
-          let l = ap length (part (p + c.len) refl) ∙ b-length e f p here c cut in
+          let l = ap length (part (p + n) refl) ∙ b-length e f p here t n cut in
           let r = place-room q in
           omega arith
 
-      pub place_list : c.good ≡ false → 2 * k + 2 ≤ length list
-      place_list q = let g = dropped-count e f p here c cut q in let r = m.list_left in omega arith
+      pub place_list : t ≡ false → 2 * k + 2 ≤ length list
+      place_list q = let g = dropped-count e f p here t n cut q in let r = m.list_left in omega arith
 
-      pub place-dropped : c.good ≡ false → (list' : Bytes) → list' ≡ paste list (2 * k) (p ∷ c.len ∷ []) 2
-          → Placing (p + c.len) w (k + 1) room list'
+      pub place-dropped : t ≡ false → (list' : Bytes) → list' ≡ paste list (2 * k) (p ∷ n ∷ []) 2
+          → Placing (p + n) w (k + 1) room list'
       place-dropped q list' el =
-          let a : Bytes = p ∷ c.len ∷ [] in
-          let l = ap length (dropped-bytes e f p here c cut q) in
+          let a : Bytes = p ∷ n ∷ [] in
+          let l = ap length (dropped-bytes e f p here t n cut q) in
           let r = m.room-left in
-          let g = dropped-count e f p here c cut q in
+          let g = dropped-count e f p here t n cut q in
           let gl = m.list_left in
           let ll = m.list_length in
           let same : length list' ≡ length list = ap length el ∙ length-paste list (2 * k) a 2 (omega arith) (omega arith) in
           let k2 : 2 * (k + 1) ≡ 2 * k + 2 = omega arith in
-          let rest : List ℕ = gap_numbers (p + c.len) left in
+          let rest : List ℕ = gap_numbers (p + n) left in
           record {
             high = cut.inside;
             room-left = omega arith;
             list_left = omega arith;
             room-length = m.room-length;
             list_length = omega arith;
-            room_due = ap (λ (x : Bytes). paste room w x (length x)) (sym (dropped-bytes e f p here c cut q)) ∙ m.room_due;
+            room_due = ap (λ (x : Bytes). paste room w x (length x)) (sym (dropped-bytes e f p here t n cut q)) ∙ m.room_due;
             list_due =
                 ap₂ (λ (x : Bytes) (i : ℕ). paste x i rest (length rest)) el k2
                 ∙ paste_two list (2 * k) a rest (omega arith)
-                ∙ ap (λ (x : Bytes). paste list (2 * k) x (length x)) (sym (dropped_numbers e f p here c cut q))
+                ∙ ap (λ (x : Bytes). paste list (2 * k) x (length x)) (sym (dropped_numbers e f p here t n cut q))
                 ∙ m.list_due;
           }

@@ -1,32 +1,22 @@
 -- What a rescue answers and leaves, case by case.
 -- Assumes nothing.
 use mathlib.Core.Path.{◌≡◌, refl, sym, ap, ap₂, ◌∙◌}
-use mathlib.Core.Bool.{Bool, true, false, cond, not, ◌&&◌}
+use mathlib.Core.Bool.{Bool, true, false, cond, ◌&&◌}
 use mathlib.Core.List.{List, ◌++◌}
-use Prim.Native.Nat.{ℕ, ◌+◌, ◌-◌, ◌*◌, ◌/◌, ◌<◌, ◌≤◌}
+use Prim.Native.Nat.{ℕ, ◌+◌, ◌*◌, ◌≤◌}
 use native.Mathlib.Omega.{arith}
-use borrow.Author.Tests.{leb-true, lt-leb, not-true, not-false}
+use borrow.Author.Tests.{leb-true}
 use lib.Dec.{leb}
 use lib.ListN.{length, take, length-append, length-take}
 use lib.Seq.{paste}
 use Rattle.trace_format.specs.Format.{Bytes, edition_of, head_in, edition_in, good_file_head, file_head, bad_file_head, read_file_head_by, read_file_head}
 use Rattle.octets.proofs.BoolLaws.{and_true}
-use Rattle.trace_format.proofs.ByteLaws.{leb_same, paste_two}
+use Rattle.trace_format.proofs.ByteLaws.{paste_two}
 use Rattle.trace_rescue.specs.Rescue.{Piece, pieces_in, pieces_of, kept_bytes, gap_numbers, gap_count, roomy, rescued_file, done}
 use Rattle.trace_rescue.specs.Answers.{Measured, Fits, Writes, Rescues}
 use Rattle.trace_rescue.specs.declared.Sizes.{Sizes}
-use Rattle.trace_rescue.specs.declared.Rescuing.TheVariants.{Done, Refused}
-
--- ---- the room
-
-pub no_head : (k g n m : ℕ) → n < 4 → false ≡ (leb (4 + k) n && leb (2 * g) m)
-no_head k g n m h = rw (lt-leb (4 + k) n (omega arith))
-
-pub both_fit : (k g n m : ℕ) → 4 ≤ n → (leb k (n - 4) && leb g (m / 2)) ≡ (leb (4 + k) n && leb (2 * g) m)
-both_fit k g n m h =
-    ap₂ (λ (a b : Bool). a && b)
-    (leb_same k (n - 4) (4 + k) n (λ i. omega arith) (λ i. omega arith))
-    (leb_same g (m / 2) (2 * g) m (λ i. omega arith) (λ i. omega arith))
+use Rattle.trace_format.specs.declared.Unreadable.{Unreadable}
+use Rattle.std.proofs.Common.{Ok, Err}
 
 -- ---- the file head
 
@@ -38,15 +28,15 @@ told_bad : (t : Bool) (e' d' c' : ℕ) → cond t (file_head e' d' c') bad_file_
 told_bad true e' d' c' q = absurd (let z : ◌≡◌ {A = ℕ} 0 1 = cc in omega arith)
 told_bad false e' d' c' q = refl
 
-module _ (f room list : Bytes) where
-  not_roomy : roomy f (length room) (length list) ≡ false → Rescues f room list (Refused 36) room list
+module _ (f room list : Bytes) {u : Unreadable} where
+  not_roomy : roomy f (length room) (length list) ≡ false → Rescues f room list (Err u) room list
   not_roomy t = record { answer = rw t; bytes = rw t; gaps = rw t }
 
   -- whether there is room, once it is known whether there is a file head
   abbrev with_head : Bool → Bool
   with_head t = t && (leb (length (rescued_file f)) (length room) && leb (2 * gap_count (pieces_of f)) (length list))
 
-  pub head-unreadable : bad_file_head ≡ read_file_head f → Rescues f room list (Refused 36) room list
+  pub head-unreadable : bad_file_head ≡ read_file_head f → Rescues f room list (Err u) room list
   unfolding read_file_head_by
   head-unreadable t = not_roomy (ap with_head (told_bad (good_file_head edition_of f) _ _ _ (sym t)))
 
@@ -80,12 +70,12 @@ module _ (f room list : Bytes) where
           (ap gap_count (sym same) ∙ sym is.gaps)
           ∙ sym says
 
-      pub room_small : not fits ≡ true → Rescues f room list (Refused 36) room list
-      room_small q = not_roomy (roomy_is ∙ not-true _ q)
+      pub room_small : fits ≡ false → Rescues f room list (Err u) room list
+      room_small q = not_roomy (roomy_is ∙ q)
 
-      pub room-there : not fits ≡ false → Fits f ps room list
+      pub room-there : fits ≡ true → Fits f ps room list
       room-there q =
-          let b = and_true (leb (4 + s.kept) (length room)) (leb (2 * s.gaps) (length list)) (sym says ∙ not-false _ q) in
+          let b = and_true (leb (4 + s.kept) (length room)) (leb (2 * s.gaps) (length list)) (sym says ∙ q) in
           let x = leb-true (4 + s.kept) (length room) b.0 in
           let y = leb-true (2 * s.gaps) (length list) b.1 in
           let k = is.kept in
@@ -93,13 +83,13 @@ module _ (f room list : Bytes) where
           record { head = head-there; bytes = omega arith; gaps = omega arith }
 
       -- the sum that is returned does not wrap
-      pub sum_fits : not fits ≡ false → 4 + s.kept ≤ length room
-      sum_fits q = leb-true (4 + s.kept) (length room) (and_true (leb (4 + s.kept) (length room)) _ (sym says ∙ not-false _ q)).0
+      pub sum_fits : fits ≡ true → 4 + s.kept ≤ length room
+      sum_fits q = leb-true (4 + s.kept) (length room) (and_true (leb (4 + s.kept) (length room)) _ (sym says ∙ q)).0
 
-      pub rescued : not fits ≡ false → (room' list' : Bytes) → Writes 0 (take 4 f ++ kept_bytes ps) ps room room' list list'
-          → Rescues f room list (Done (4 + s.kept) s.gaps) room' list'
+      pub rescued : fits ≡ true → (room' list' : Bytes) → Writes 0 (take 4 f ++ kept_bytes ps) ps room room' list list'
+          → Rescues f room list (Ok (record { written = 4 + s.kept; gaps = s.gaps })) room' list'
       rescued q room' list' w =
-          let r = roomy_is ∙ not-false _ q in
+          let r = roomy_is ∙ q in
           let bytes = ap (λ (i : ℕ). 4 + i) is.kept ∙ sym file-length ∙ ap (λ (x : List Piece). length (take 4 f ++ kept_bytes x)) same in
           record {
             answer = rw r (ap₂ done bytes (is.gaps ∙ ap gap_count same));

@@ -1,9 +1,11 @@
 -- Opening, a way out at a time.
 -- Assumes nothing.
 use mathlib.Core.Path.{◌≡◌, refl, sym, ap, ◌∙◌}
-use mathlib.Core.Bool.{Bool, true, false}
+use mathlib.Core.Bool.{Bool, true, false, cond, not}
 use mathlib.Core.List.{List, [], ◌∷◌, ◌++◌}
 use mathlib.Core.Option.{Option, none, some, get_or}
+use Rattle.std.specs.Prelude.{Result, Ok, Err}
+use Rattle.std.proofs.lemmas.Result.{IfOk-at_ok}
 use Prim.Native.Nat.{ℕ, ◌-◌}
 use native.Mathlib.Omega.{arith}
 use borrow.Author.Tests.{eq-eqb, ne_eqb, leb-false}
@@ -12,7 +14,7 @@ use lib.Dec.{eqb, leb}
 use lib.ListN.{length, take, drop}
 use Rattle.octets.specs.Maybe.{is_some}
 use Rattle.protocol.specs.Bytes.{Bytes}
-use Rattle.protocol.specs.Answer.{Answer, refused, is_refused, Test, first_else, first_of, judge}
+use Rattle.protocol.specs.Answer.{Answer, refused, is_refused, Test, first_of, judge}
 use Rattle.protocol.specs.Connection.{other, Connection, cipher_used}
 use Rattle.protocol.specs.TransformHeader.{TransformHeader, header_of, inner, session_id_of}
 use Rattle.protocol.specs.InnerHeader.{Envelope}
@@ -27,11 +29,14 @@ use Rattle.protocol.proofs.AnswerLaws.{when_done_lem, when_refused, when_part, a
 use Rattle.protocol.proofs.CallLaws.{makes_when, makes_refused}
 use Rattle.protocol.proofs.First.{First, first-passed}
 use Rattle.protocol.proofs.FirstOf.{first-of_both}
-use Rattle.protocol.proofs.Judging.{refuses, passes, judge-passed, judge-append}
+use Rattle.protocol.proofs.Judging.{judge-passed, judge-append}
 use Rattle.protocol.proofs.SuiteLaws.{suite_sound}
-use Rattle.transform_header.specs.Reading.{header_in}
-use Rattle.transform_header.proofs.HeaderIn.{header-there}
-use Rattle.transform.specs.Steps.{Deciphered, size_then_walk, deciphered, OpensBody, OpensMessage}
+use Rattle.answer.specs.declared.refusal.Refusal.{Refusal}
+use Rattle.answer.specs.Reading.{number_of, number_in}
+use Rattle.answer.proofs.Results.{passed, refuses_with, stays, goes_on}
+use Rattle.transform_header.specs.declared.TransformHeader as code
+use Rattle.transform_header.specs.Reading.{header_from}
+use Rattle.transform.specs.Steps.{opening_lines, Opens, Deciphered, size_then_walk, deciphered, OpensBody, OpensMessage}
 use Rattle.transform.proofs.Inner.{lent, back, when_inner}
 
 module _ (h : TransformHeader) (e : Envelope) (n : ℕ) (text : Bytes) where
@@ -106,45 +111,67 @@ module _ (cipher : ℕ) (key : Bytes) (e : Envelope) (m : Bytes) where
 -- ---- the whole: c is what the connection agreed on
 
 module _ (c : Connection) (key : Bytes) (id : ℕ) (m : Bytes) where
-  -- the lines before the tag
-  abbrev pub lines_before : List Test
-  lines_before = key_tests c key ++ (message_tests c m ++ (header_tests c (header_of m) ++ (other_session (eqb (session_id_of m) id) ∷ [])))
+  abbrev lines : List Test
+  lines = opening_lines c key id m
 
-  -- as the code tests them, a line after the other: what a message that is too short says after 2 counts for nothing
-  pub lines-chained : (h : TransformHeader) (line6 line4 line1 n : ℕ) → h ≡ header_in m → line6 ≡ first_of (other_session (eqb h.session_id id) ∷ [])
-      → line4 ≡ first_else (header_tests c h) line6 → line1 ≡ first_else (message_tests c m) line4 → n ≡ first_else (key_tests c key) line1 → n ≡ first_of lines_before
-  lines-chained h line6 line4 line1 n e e6 e4 e1 e40 = e40 ∙ rw (e1, e4, e6, e) (go (leb (length m) 52) refl)
-    where
-      later : TransformHeader → ℕ
-      later h = first_else (header_tests c h) (first_of (other_session (eqb h.session_id id) ∷ []))
+  pub opens-not : (why : Refusal) → number_of why ≡ first_of lines → Opens c key id m (Err why)
+  opens-not why e = record { number = e; header = tt }
 
-      go : (b : Bool) → leb (length m) 52 ≡ b → first_else (key_tests c key) (first_else (message_tests c m) (later (header_in m))) ≡ first_of lines_before
-      go true b = rw b
-      go false b = rw (header-there m (leb-false (length m) 52 b))
-
-  module _ (n : ℕ) (s : n ≡ first_of lines_before) where
-    pub lines_refuse : (n ≡ 0 → ⊥) → Makes (opening_under c key id) (only_message m) (refused n) (only_message m)
+  -- r is what the lines say
+  module _ (r : Result code.TransformHeader Refusal) (o : Opens c key id m r) where
+    pub lines_refuse : (why : Refusal) → r ≡ Err why → Makes (opening_under c key id) (only_message m) (refused (number_of why)) (only_message m)
     unfolding tests
-    lines_refuse h = makes_refused (opening_under c key id) (only_message m) (refused n) (sym (refuses lines_before _ n s h)) refl
+    lines_refuse why e = makes_refused (opening_under c key id) (only_message m) (refused (number_of why)) (sym (refuses_with lines refl r why _ o.number e)) refl
 
-    module _ (z : n ≡ 0) where
+    module _ (h : code.TransformHeader) (e : r ≡ Ok h) where
+      pub header_is : header_from h ≡ header_of m
+      header_is = IfOk-at_ok (λ (x : code.TransformHeader). header_from x ≡ header_of m) e o.header
+
       pub lines-passed : First c key m
       lines-passed =
           first-passed c key m 0
-          (sym (first-of_both (key_tests c key ++ message_tests c m) (header_tests c (header_of m) ++ (other_session (eqb (session_id_of m) id) ∷ [])) (sym s ∙ z))) refl
+          (sym (first-of_both (key_tests c key ++ message_tests c m) (header_tests c (header_of m) ++ (other_session (eqb (session_id_of m) id) ∷ []))
+          (sym o.number ∙ ap number_in e))) refl
 
-      pub message-opens : (used : ℕ) (e : Envelope) (m' : Bytes) (a : Answer) → used ≡ cipher_used c → e ≡ sent_by (other c.role) id → OpensMessage used key e m m' a
+      pub message-opens : (used : ℕ) (env : Envelope) (m' : Bytes) (a : Answer) → used ≡ cipher_used c → env ≡ sent_by (other c.role) id → OpensMessage used key env m m' a
           → Makes (opening_under c key id) (only_message m) a (only_message m')
       unfolding tests effect
-      message-opens used e m' a eu ee o =
-          let o' : OpensMessage (cipher_used c) key (sent_by (other c.role) id) m m' a = rw (eu, ee) at o in
+      message-opens used env m' a eu ee x =
+          let x' : OpensMessage (cipher_used c) key (sent_by (other c.role) id) m m' a = rw (eu, ee) at x in
           let text = plaintext_under ciphers (cipher_used c) key m in
           let walked = walk (get_or text []) (sent_by (other c.role) id) in
-          let none = passes lines_before n refl s z in
+          let none = passed lines refl r h o.number e in
           makes_when (opening_under c key id) (only_message m) a
-          (o'.answer
-          ∙ sym (judge-passed lines_before (judge (text_tests m text) walked) none)
-          ∙ sym (judge-append lines_before (text_tests m text) walked)
-          ∙ ap (judge (lines_before ++ text_tests m text)) (sym (after_nothing walked)))
+          (x'.answer
+          ∙ sym (judge-passed lines (judge (text_tests m text) walked) none)
+          ∙ sym (judge-append lines (text_tests m text) walked)
+          ∙ ap (judge (lines ++ text_tests m text)) (sym (after_nothing walked)))
           (only_message m')
-          (ap only_message o'.bytes ∙ when_part only_message a (opened_to m text) m)
+          (ap only_message x'.bytes ∙ when_part only_message a (opened_to m text) m)
+
+-- ---- the lines, a list after the other
+
+module _ (c : Connection) (key : Bytes) (id : ℕ) (m : Bytes) where
+  abbrev other_lines : List Test
+  other_lines = other_session (eqb (session_id_of m) id) ∷ []
+
+  abbrev front : List Test
+  front = message_tests c m ++ header_tests c (header_of m)
+
+  module _ (rk : Result (Unit {0}) Refusal) (k : number_in rk ≡ first_of (key_tests c key)) where
+    pub key_refuses : (why : Refusal) → rk ≡ Err why → number_of why ≡ first_of (opening_lines c key id m)
+    key_refuses why o = stays (key_tests c key) (front ++ other_lines) rk k why o
+
+    module _ (xk : Unit {0}) (ok : rk ≡ Ok xk) (rh : Result code.TransformHeader Refusal) (t : number_in rh ≡ first_of front) where
+      behind_key : first_of (opening_lines c key id m) ≡ first_of (front ++ other_lines)
+      behind_key = goes_on (key_tests c key) (front ++ other_lines) rk k xk refl ok
+
+      pub front_refuses : (why : Refusal) → rh ≡ Err why → number_of why ≡ first_of (opening_lines c key id m)
+      front_refuses why o = stays front other_lines rh t why o ∙ sym behind_key
+
+      pub all_say : (h : code.TransformHeader) → rh ≡ Ok h → header_from h ≡ header_of m → (ro : Result (Unit {0}) Refusal)
+          → number_in ro ≡ cond (not (eqb h.session_id id)) 6 0 → number_in ro ≡ first_of (opening_lines c key id m)
+      all_say h oh eh ro u =
+          u
+          ∙ ap (λ (x : TransformHeader). cond (not (eqb x.session_id id)) 6 0) eh
+          ∙ sym (behind_key ∙ goes_on front other_lines rh t h refl oh)

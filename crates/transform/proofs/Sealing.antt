@@ -9,8 +9,9 @@ use borrow.Author.Tests.{eq-eqb, ne_eqb}
 use borrow.Rule.Slice.PartMut.{put_mid}
 use lib.ListN.{length, take, drop, length-drop}
 use lib.Seq.{paste, take_at, drop_at, take-length, length-take-le, drop-append-add, drop-drop}
+use Rattle.std.specs.Prelude.{Result, Ok, Err}
 use Rattle.protocol.specs.Bytes.{Bytes}
-use Rattle.protocol.specs.Answer.{Answer, done, refused, is_refused, first_else, first_of, judge_after}
+use Rattle.protocol.specs.Answer.{Answer, done, refused, is_refused, first_of, judge_after}
 use Rattle.protocol.specs.Connection.{Connection, cipher_used, last_counter}
 use Rattle.protocol.specs.TransformHeader.{protocol_id, nonce_of, authenticated, transform_message, inner}
 use Rattle.protocol.specs.Compound.{walk}
@@ -24,7 +25,10 @@ use Rattle.protocol.proofs.AnswerLaws.{after-done, after-refused}
 use Rattle.protocol.proofs.CallLaws.{makes_done}
 use Rattle.protocol.proofs.First.{First, first-passed}
 use Rattle.protocol.proofs.FirstOf.{none_first}
-use Rattle.protocol.proofs.Judging.{refused_judged, refuses, judge-passed, judge-done}
+use Rattle.protocol.proofs.Judging.{refused_judged, judge-passed, judge-done}
+use Rattle.answer.specs.declared.refusal.Refusal.{Refusal}
+use Rattle.answer.specs.Reading.{number_of, number_in}
+use Rattle.answer.proofs.Results.{refuses_with}
 use Rattle.transform.specs.Steps.{Sized, Enciphered}
 use Rattle.transform.proofs.Inner.{lent, back}
 
@@ -69,14 +73,13 @@ module _ (c : Connection) (key : Bytes) (id k : ℕ) (m : Bytes) where
   abbrev sealed : Answer
   sealed = answer suite (sealing_under c key id) (message_and_counter m k)
 
-  -- as the code tests them, a line after the other
-  pub lines-chained : (line1 n : ℕ) → line1 ≡ first_of (message_tests c m) → n ≡ first_else (key_tests c key) line1 → n ≡ first_of (key_tests c key ++ message_tests c m)
-  lines-chained line1 n e1 e40 = e40 ∙ rw e1
-
-  module _ (n : ℕ) (s : n ≡ first_of (key_tests c key ++ message_tests c m)) where
-    pub lines_refuse : (n ≡ 0 → ⊥) → refused n ≡ sealed
+  module _ (r : Result (Unit {0}) Refusal) (says : number_in r ≡ first_of (key_tests c key ++ message_tests c m)) where
+    pub lines_refuse : (why : Refusal) → r ≡ Err why → refused (number_of why) ≡ sealed
     unfolding tests
-    lines_refuse h = sym (refuses (key_tests c key ++ message_tests c m) _ n s h)
+    lines_refuse why e = sym (refuses_with (key_tests c key ++ message_tests c m) refl r why _ says e)
+
+    pub lines-passed : (x : Unit {0}) → r ≡ Ok x → First c key m
+    lines-passed x e = first-passed c key m 0 (sym (ap number_in e) ∙ says) refl
 
   module _ (f : First c key m) (a : Answer) (w : a ≡ walk (inner m) (sent_by c.role id)) where
     so_far : sealed ≡ judge_after a (counter_used_up k ∷ [])

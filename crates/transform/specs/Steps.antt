@@ -1,19 +1,24 @@
 -- What the steps of sealing and opening promise to each other. A primed name is the value afterwards.
 -- Assumes nothing.
-use Rattle.std.specs.Prelude.{◌≡◌, Bool, [], ◌∷◌, ℕ, ◌+◌, ◌≤◌, ◌<◌, length}
+use Rattle.std.specs.Prelude.{◌≡◌, Bool, List, [], ◌∷◌, ◌++◌, ℕ, ◌+◌, ◌≤◌, ◌<◌, eqb, length, Result}
+use Rattle.std.specs.Result.{IfOk}
 use Rattle.std.proofs.Math.Option.{Option, get_or}
 use Rattle.octets.specs.Maybe.{is_some}
 use Rattle.protocol.specs.Bytes.{Bytes}
-use Rattle.protocol.specs.Answer.{Answer, when_done, judge}
-use Rattle.protocol.specs.Connection.{longest_message}
-use Rattle.protocol.specs.TransformHeader.{TransformHeader}
+use Rattle.protocol.specs.Answer.{Answer, when_done, Test, first_of, judge}
+use Rattle.protocol.specs.Connection.{Connection, longest_message}
+use Rattle.protocol.specs.TransformHeader.{TransformHeader, header_of, session_id_of}
 use Rattle.protocol.specs.InnerHeader.{Envelope}
 use Rattle.protocol.specs.Compound.{walk}
-use Rattle.protocol.specs.Refusals.{bad_tag, bad_size}
+use Rattle.protocol.specs.Refusals.{other_session, bad_tag, bad_size}
 use Rattle.protocol.specs.Ciphers.{Cipher}
 use Rattle.protocol.specs.Transform.{plaintext_under, opened_to}
-use Rattle.protocol.specs.Calls.{text_tests}
+use Rattle.protocol.specs.Calls.{key_tests, message_tests, header_tests, text_tests}
 use Rattle.protocol.specs.Suite.{ciphers}
+use Rattle.answer.specs.declared.refusal.Refusal.{Refusal}
+use Rattle.answer.specs.Reading.{number_in}
+use Rattle.transform_header.specs.declared.TransformHeader as code
+use Rattle.transform_header.specs.Reading.{header_from}
 
 -- ---- the ciphers by number, with the cipher x
 
@@ -28,6 +33,16 @@ pub record Deciphered (x : Cipher) (key nonce auth received body body' : Bytes) 
   pub bytes : body' ≡ get_or (x.decrypt key nonce auth received body) body
 
 -- ---- messages
+
+-- 40, 1 to 5, 29, 6: the lines of opening before the tag
+abbrev pub opening_lines : Connection → Bytes → ℕ → Bytes → List Test
+opening_lines c key id m =
+    key_tests c key ++ (message_tests c m ++ (header_tests c (header_of m) ++ (other_session (eqb (session_id_of m) id) ∷ [])))
+
+-- what passes them has this header
+pub record Opens (c : Connection) (key : Bytes) (id : ℕ) (m : Bytes) (r : Result code.TransformHeader Refusal) : Type 0 where
+  pub number : number_in r ≡ first_of (opening_lines c key id m)
+  pub header : IfOk r (λ h. header_from h ≡ header_of m)
 
 -- lengths that 2 and 3 let pass
 pub record Sized (m : Bytes) : Type 0 where

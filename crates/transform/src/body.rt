@@ -1,6 +1,5 @@
 // The part that ciphers: opening and sealing once the tests before it have passed.
-ghost use Rattle.std.specs.Prelude.{◌≡◌, true, ◌≤◌, length};
-ghost use Rattle.aes.specs.KeySizes.{is_key_length};
+ghost use Rattle.std.specs.Prelude.{◌≡◌, ◌≤◌, length};
 ghost use Rattle.protocol.specs.Connection.{longest_message};
 ghost use Rattle.protocol.specs.TransformHeader.{header_of, inner, transform_message};
 ghost use Rattle.protocol.specs.Compound.{walk};
@@ -11,50 +10,41 @@ ghost use Rattle.compound.specs.Reading.{envelope_of};
 ghost use Rattle.transform_header.specs.Reading.{header_from};
 ghost use Rattle.transform.specs.Steps.{Sized, size_then_walk, OpensBody, OpensMessage};
 
-use answer::Answer;
+use crate::cipher::Keyed;
+use answer::{Answer, Refusal, refuse};
 use compound::Envelope;
+use runs::copy;
 use transform_header::TransformHeader;
 
 // 10, then the walk.
 fn size_then_walk(h: TransformHeader, e: Envelope, text: &[u8]) -> Answer
     ensures { answer_of result ≡ size_then_walk (header_from h) (envelope_of e) (length text.now) text.now }
 {
-    if h.size as usize != text.len() {
-        return Answer::Refused(10);
-    }
+    refuse(h.size as usize != text.len(), Refusal::BadSize)?;
     compound::walk_headers(text, e)
 }
 
 // Opens the text in place, from the tag on. After a refusal the key stream is applied again, which turns it back.
-fn open_body(cipher: u16, key: &[u8], h: TransformHeader, e: Envelope, text: &mut [u8]) -> Answer
-    requires { (is_key_length (length key.now) ≡ true) × (length text.old ≤ longest_message) }
-    ensures { OpensBody cipher key.now (header_from h) (envelope_of e) text.old text.new (answer_of result) }
+fn open_body(keyed: Keyed, h: TransformHeader, e: Envelope, text: &mut [u8]) -> Answer
+    requires { length text.old ≤ longest_message }
+    ensures { OpensBody keyed.entry.cipher keyed.entry.key.now (header_from h) (envelope_of e) text.old text.new (answer_of result) }
 {
-    let nonce = h.nonce;
-    let authenticated = h.authenticated;
-    let signature = h.signature;
-    if !crate::cipher::open(cipher, key, nonce, authenticated, signature, text) {
-        return Answer::Refused(9);
+    if !keyed.open(h.nonce, h.authenticated, h.signature, text) {
+        return Err(Refusal::BadTag);
     }
     let out = size_then_walk(h, e, text);
-    if answer::refused(out) {
-        crate::cipher::apply(cipher, key, nonce, text);
+    if out.is_err() {
+        keyed.apply(h.nonce, text);
     }
     out
 }
 
 // Opens the message in place, from the tag on, where h is its header.
-pub fn open_message(
-    cipher: u16,
-    key: &[u8],
-    h: TransformHeader,
-    e: Envelope,
-    m: &mut [u8],
-) -> Answer
-    requires { (is_key_length (length key.now) ≡ true) × ((header_from h ≡ header_of m.old) × Sized m.old) }
-    ensures { OpensMessage cipher key.now (envelope_of e) m.old m.new (answer_of result) }
+pub fn open_message(keyed: Keyed, h: TransformHeader, e: Envelope, m: &mut [u8]) -> Answer
+    requires { (header_from h ≡ header_of m.old) × Sized m.old }
+    ensures { OpensMessage keyed.entry.cipher keyed.entry.key.now (envelope_of e) m.old m.new (answer_of result) }
 {
-    open_body(cipher, key, h, e, &mut m[52..])
+    open_body(keyed, h, e, &mut m[52..])
 }
 
 // The walk over the inner message.
@@ -70,19 +60,19 @@ fn write_header(m: &mut [u8], tag: [u8; 16], aad: [u8; 32])
     requires { Sized m.old }
     ensures { m.new ≡ transform_message tag aad (inner m.old) }
 {
-    runs::copy(m, 0, b"\xFDSMB");
-    runs::copy(m, 4, &tag);
-    runs::copy(m, 20, &aad);
+    copy(m, 0, b"\xFDSMB");
+    copy(m, 4, &tag);
+    copy(m, 20, &aad);
 }
 
 // Seals the message in place once all tests have passed.
-pub fn seal_message(cipher: u16, key: &[u8], counter: u64, id: u64, m: &mut [u8])
-    requires { (is_key_length (length key.now) ≡ true) × Sized m.old }
-    ensures { m.new ≡ sealed_under ciphers cipher key.now counter id (inner m.old) }
+pub fn seal_message(keyed: Keyed, counter: u64, id: u64, m: &mut [u8])
+    requires { Sized m.old }
+    ensures { m.new ≡ sealed_under ciphers keyed.entry.cipher keyed.entry.key.now counter id (inner m.old) }
 {
     let size = (m.len() - 52) as u32;
     let nonce = transform_header::nonce(counter);
     let aad = transform_header::authenticated_bytes(counter, size, id);
-    let tag = crate::cipher::seal(cipher, key, nonce, aad, &mut m[52..]);
+    let tag = keyed.seal(nonce, aad, &mut m[52..]);
     write_header(m, tag, aad);
 }

@@ -4,75 +4,84 @@
 mod body;
 mod cipher;
 
-ghost use Rattle.std.specs.Prelude.{◌≡◌};
-ghost use Rattle.protocol.specs.Calls.{sealing_under, opening_under, only_message, message_and_counter, answer};
+ghost use Rattle.std.specs.Prelude.{◌≡◌, ◌++◌};
+ghost use Rattle.protocol.specs.Answer.{first_of};
+ghost use Rattle.protocol.specs.Calls.{sealing_under, opening_under, only_message, message_and_counter, key_tests, message_tests, answer};
 ghost use Rattle.protocol.specs.Suite.{suite};
 ghost use Rattle.protocol.specs.Contract.{Makes};
-ghost use Rattle.answer.specs.Reading.{answer_of};
+ghost use Rattle.answer.specs.Reading.{number_in, answer_of};
 ghost use Rattle.connection.specs.Reading.{connection_of};
+ghost use Rattle.transform.specs.Steps.{Opens};
 
-use answer::{Answer, refuse};
+use answer::{Answer, Refusal, refuse};
+use cipher::Keyed;
 use connection::Connection;
+use transform_header::TransformHeader;
 
-// What sealing gives: the answer, and the counter handed back.
-#[derive(Clone, Copy)]
-pub struct Sealed {
-    pub answer: Answer,
-    pub counter: u64,
+// 40, 1 to 5, 29, 6: of an open, all before the tag. What passes has a header.
+fn open_tests(
+    c: Connection,
+    key: &[u8],
+    id: u64,
+    message: &[u8],
+) -> Result<TransformHeader, Refusal>
+    ensures { Opens (connection_of c) key.now id message.now result }
+{
+    refusals::key_tests(c, key)?;
+    let h = refusals::opening_tests(c, message)?;
+    refuse(h.session_id != id, Refusal::OtherSession)?;
+    Ok(h)
 }
 
 // Opens the message in place: 40, 1 to 5, 29, 6, 9 to 16. Refused, the message is as it was lent.
 pub fn open_under(c: Connection, key: &[u8], id: u64, message: &mut [u8]) -> Answer
     ensures { Makes (opening_under (connection_of c) key.now id) (only_message message.old) (answer_of result) (only_message message.new) }
 {
-    let e = envelope::received(c, id);
-    let h = transform_header::read_header(message);
-    let line6 = refuse(6, !(h.session_id == id), 0);
-    let line4 = refusals::header_number(c, h, line6);
-    let line1 = refusals::message_number(c, message, line4);
-    let first = refusals::key_number(c, key, line1);
-    if first != 0 {
-        return Answer::Refused(first);
-    }
-    let used = connection::cipher_used(c);
-    body::open_message(used, key, h, e, message)
+    let h = open_tests(c, key, id, message)?;
+    let keyed = Keyed {
+        cipher: c.cipher_used(),
+        key,
+    };
+    body::open_message(keyed, h, envelope::received(c.role(), id), message)
+}
+
+// 40, 1, 2, 3: of a seal, before the walk.
+fn lines_before(c: Connection, key: &[u8], message: &[u8]) -> Result<(), Refusal>
+    ensures { number_in result ≡ first_of (key_tests (connection_of c) key.now ++ message_tests (connection_of c) message.now) }
+{
+    refusals::key_tests(c, key)?;
+    refusals::message_tests(c, message)
 }
 
 // 40, 1, 2, 3, 11 to 16, 17: of a seal, all before a byte is written.
-fn seal_answer(c: Connection, key: &[u8], counter: u64, id: u64, message: &[u8]) -> Answer
+fn seal_tests(c: Connection, key: &[u8], id: u64, counter: u64, message: &[u8]) -> Answer
     ensures { answer_of result ≡ answer suite (sealing_under (connection_of c) key.now id) (message_and_counter message.now counter) }
 {
-    let e = envelope::sent(c, id);
-    let line1 = refusals::message_number(c, message, 0);
-    let first = refusals::key_number(c, key, line1);
-    if first != 0 {
-        return Answer::Refused(first);
-    }
-    let out = body::walk_inner(message, e);
-    if answer::refused(out) {
-        return out;
-    }
-    if counter == connection::last_counter() {
-        return Answer::Refused(17);
-    }
-    out
+    lines_before(c, key, message)?;
+    let headers = body::walk_inner(message, envelope::sent(c.role(), id))?;
+    refuse(
+        counter == connection::last_counter(),
+        Refusal::CounterUsedUp,
+    )?;
+    Ok(headers)
 }
 
-// Seals the message in place: 40, 1, 2, 3, 11 to 16, 17. Refused, the message is as it was lent.
-pub fn seal_under(c: Connection, key: &[u8], counter: u64, id: u64, message: &mut [u8]) -> Sealed
-    ensures { Makes (sealing_under (connection_of c) key.now id) (message_and_counter message.old counter) (answer_of result.answer) (message_and_counter message.new result.counter) }
+// Seals the message in place: 40, 1, 2, 3, 11 to 16, 17. Done, the counter is one up. Refused, it and the message are as they were lent.
+pub fn seal_under(
+    c: Connection,
+    key: &[u8],
+    id: u64,
+    counter: &mut u64,
+    message: &mut [u8],
+) -> Answer
+    ensures { Makes (sealing_under (connection_of c) key.now id) (message_and_counter message.old counter.old) (answer_of result) (message_and_counter message.new counter.new) }
 {
-    let out = seal_answer(c, key, counter, id, message);
-    if answer::refused(out) {
-        return Sealed {
-            answer: out,
-            counter: counter,
-        };
-    }
-    let used = connection::cipher_used(c);
-    body::seal_message(used, key, counter, id, message);
-    Sealed {
-        answer: out,
-        counter: counter + 1,
-    }
+    let headers = seal_tests(c, key, id, *counter, message)?;
+    let keyed = Keyed {
+        cipher: c.cipher_used(),
+        key,
+    };
+    body::seal_message(keyed, *counter, id, message);
+    *counter += 1;
+    Ok(headers)
 }

@@ -1,6 +1,6 @@
 -- The struct of the code, read as the header of the rules.
 -- Assumes nothing.
-use Rattle.std.specs.Prelude.{false, cond, ltb, length, replicate}
+use Rattle.std.specs.Prelude.{◌≡◌, ◌<◌, ◌≤◌, false, cond, ltb, length, replicate, Option, Some, None}
 use Rattle.protocol.specs.Bytes.{Bytes}
 use Rattle.protocol.specs.TransformHeader as rules
 use Rattle.transform_header.specs.declared.TransformHeader.{TransformHeader}
@@ -26,3 +26,8 @@ no_header =
 -- the header of the message m, or nothing where m has no room for one
 unfoldable pub header_in : Bytes → rules.TransformHeader
 header_in m = cond (ltb (length m) 52) no_header (rules.header_of m)
+
+-- what is read of the message m: its header, where m has room for one
+abbrev pub ReadFrom : Bytes → Option TransformHeader → Type 0
+ReadFrom m None = length m < 52
+ReadFrom m (Some h) = (52 ≤ length m) × (header_from h ≡ rules.header_of m)

@@ -3,7 +3,11 @@
 
 ghost use Rattle.std.specs.Prelude.{◌≡◌};
 ghost use Rattle.protocol.specs.TransformHeader.{nonce_of, authenticated};
-ghost use Rattle.transform_header.specs.Reading.{header_from, header_in};
+ghost use Rattle.transform_header.specs.Reading.{ReadFrom};
+
+use arrays::bytes_at;
+use little_endian::{number_at, to_bytes};
+use runs::copy;
 
 #[derive(Clone, Copy)]
 pub struct TransformHeader {
@@ -17,49 +21,31 @@ pub struct TransformHeader {
     pub session_id: u64,
 }
 
-// The header of the message, or nothing, all zero, where there is no room for one.
-pub fn read_header(m: &[u8]) -> TransformHeader
-    ensures { header_from result ≡ header_in m.now }
+// The header of the message, if there is room for one.
+pub fn read_header(m: &[u8]) -> Option<TransformHeader>
+    ensures { ReadFrom m.now result }
 {
     if m.len() < 52 {
-        return TransformHeader {
-            begins: false,
-            signature: [0u8; 16],
-            nonce: [0u8; 16],
-            nonce_end: 0,
-            authenticated: [0u8; 32],
-            size: 0,
-            flags: 0,
-            session_id: 0,
-        };
+        return None;
     }
-    let begins = protocol_id::begins(m, 0, 0xFD);
-    let signature = arrays::bytes_16(m, 4);
-    let nonce = arrays::bytes_16(m, 20);
-    let nonce_end = little_endian::u32_at(m, 32);
-    let authenticated = arrays::bytes_32(m, 20);
-    let size = little_endian::u32_at(m, 36);
-    let flags = little_endian::u16_at(m, 42);
-    let session_id = little_endian::u64_at(m, 44);
-    TransformHeader {
-        begins: begins,
-        signature: signature,
-        nonce: nonce,
-        nonce_end: nonce_end,
-        authenticated: authenticated,
-        size: size,
-        flags: flags,
-        session_id: session_id,
-    }
+    Some(TransformHeader {
+        begins: protocol_id::begins(m, 0, 0xFD),
+        signature: bytes_at(m, 4),
+        nonce: bytes_at(m, 20),
+        nonce_end: number_at::<4>(m, 32) as u32,
+        authenticated: bytes_at(m, 20),
+        size: number_at::<4>(m, 36) as u32,
+        flags: number_at::<2>(m, 42) as u16,
+        session_id: number_at::<8>(m, 44),
+    })
 }
 
 // The Nonce field that sealing writes.
 pub fn nonce(counter: u64) -> [u8; 16]
     ensures { result ≡ nonce_of counter }
 {
-    let c = little_endian::u64_bytes(counter);
     let mut r = [0u8; 16];
-    runs::copy(&mut r, 0, &c);
+    copy(&mut r, 0, &to_bytes::<8>(counter));
     r
 }
 
@@ -67,13 +53,10 @@ pub fn nonce(counter: u64) -> [u8; 16]
 pub fn authenticated_bytes(counter: u64, size: u32, id: u64) -> [u8; 32]
     ensures { result ≡ authenticated counter size id }
 {
-    let c = little_endian::u64_bytes(counter);
-    let s = little_endian::u32_bytes(size);
-    let i = little_endian::u64_bytes(id);
     let mut r = [0u8; 32];
-    runs::copy(&mut r, 0, &c);
-    runs::copy(&mut r, 16, &s);
+    copy(&mut r, 0, &to_bytes::<8>(counter));
+    copy(&mut r, 16, &to_bytes::<4>(u64::from(size)));
     r[22] = 1;
-    runs::copy(&mut r, 24, &i);
+    copy(&mut r, 24, &to_bytes::<8>(id));
     r
 }

@@ -1,12 +1,17 @@
--- Right because column j takes its row r from the column j + r, which is SHIFTROWS.
-use mathlib.Core.Path.{refl}
-use Rattle.rijndael.specs.Cipher.{add_round_key, mix_columns, shift_rows, sub_bytes, state}
-use Rattle.aes_words.specs.Words.{state_of, bytes_of}
-use Rattle.aes_words.proofs.WordLaws.{begins}
+-- Right because the round key is added byte by byte, and SUBBYTES and SHIFTROWS may be changed about.
+use mathlib.Core.List.{List}
+use mathlib.Core.Path.{◌∙◌, ap}
+use Prim.Native.Nat.{ℕ}
+use Rattle.octets.specs.Xor.{xor}
+use Rattle.rijndael.specs.Cipher.{mix_columns, sub_bytes}
+use Rattle.aes_words.specs.Words.{state_of}
+use Rattle.aes_rounds.proofs.CipherLaws.{mixed-key, rows-bytes}
 use Rattle.aes_rounds.proofs.round.Goals as goal
 
 pub returns : goal.returns
-unfolding state_of bytes_of add_round_key mix_columns shift_rows sub_bytes state
 returns c =
-    begins c.column.ensures
-    (begins c.column-2.ensures (begins c.column-3.ensures (begins c.column-4.ensures refl)))
+    let s = state_of c.args.s in
+    let k = state_of c.args.k in
+    c.bitxor.ensures
+    ∙ ap (λ (x : List ℕ). xor x k) (c.sub_mix.ensures ∙ ap (λ (x : List ℕ). mix_columns (sub_bytes x)) c.shift_rows.ensures ∙ ap mix_columns (rows-bytes s))
+    ∙ mixed-key _ k

@@ -1,8 +1,9 @@
 -- Right because each column is made of its four bytes: twelve of the prefix, and four of the number.
 use Prim.Native.Nat.{ℕ}
 use mathlib.Core.List.{List, ◌++◌}
-use mathlib.Core.Path.{refl, ap₂, ◌∙◌}
+use mathlib.Core.Path.{refl, ap, ap₂, ◌∙◌}
 use borrow.Author.Rules.{rules}
+use Rattle.octets.specs.Numbers.{to_big_endian}
 use Rattle.octets.proofs.Elements.{whole}
 use Rattle.aes_words.specs.Words.{state_of, bytes_of}
 use Rattle.aes_words.proofs.WordLaws.{begins}
@@ -13,4 +14,4 @@ unfolding state_of bytes_of
 returns c =
     begins c.word_at.ensures (begins c.word_at-2.ensures (begins c.word_at-3.ensures (begins c.word_at-4.ensures refl)))
     ∙ ap₂ (λ (x y : List ℕ). x ++ y) (whole 12 c.args.p (search rules))
-    (whole 4 c.u32_bytes-c.result c.u32_bytes-c.type_inv.1.0.1 ∙ c.u32_bytes-c.ensures)
+    (whole 4 c.to_bytes-c.result c.to_bytes-c.type_inv.1.0.1 ∙ c.to_bytes-c.ensures ∙ ap (to_big_endian 4) c.from.ensures)

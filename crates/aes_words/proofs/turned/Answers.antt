@@ -3,4 +3,4 @@ use Rattle.aes_words.proofs.WordLaws.{turned}
 use Rattle.aes_words.proofs.turned.Goals as goal
 
 pub returns : goal.returns
-returns c = turned c.args.x c.ranges.x.fits
+returns c = rw c.rotate_left.ensures (turned c.args.x c.ranges.x.fits)

@@ -3,4 +3,6 @@ use Rattle.aes_words.proofs.WordLaws.{joined}
 use Rattle.aes_words.proofs.word.Goals as goal
 
 pub returns : goal.returns
-returns c = joined c.args.a c.args.b c.args.c c.args.d c.ranges.a.fits c.ranges.b.fits c.ranges.c.fits c.ranges.d.fits
+returns c =
+    rw (c.from.ensures, c.from-2.ensures, c.from-3.ensures, c.from-4.ensures)
+    (joined c.args.a c.args.b c.args.c c.args.d c.ranges.a.fits c.ranges.b.fits c.ranges.c.fits c.ranges.d.fits)

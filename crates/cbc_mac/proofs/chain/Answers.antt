@@ -1,41 +1,42 @@
-use mathlib.Core.Path.{◌≡◌, refl, ap, ◌∙◌}
-use mathlib.Core.List.{List}
-use Prim.Native.Nat.{ℕ, ◌+◌, ◌-◌}
+use mathlib.Core.Path.{◌≡◌, refl, sym, ap, ap₂, ◌∙◌}
+use mathlib.Core.List.{List, []}
+use Prim.Native.Nat.{ℕ, suc, ◌*◌, ◌/◌}
+use native.Mathlib.Numerals.{add-one}
 use native.Mathlib.Omega.{arith}
-use lib.ListN.{length}
-use Rattle.octets.specs.Blocks.{block_count, over_blocks}
+use lib.ListN.{length, get_or, drop}
+use Rattle.octets.specs.Blocks.{zero_padded, block_count, over_blocks}
 use Rattle.octets.specs.Xor.{xor}
-use Rattle.octets.proofs.BlockLaws.{over_turn}
-use Rattle.aes.specs.Cipher.{cipher}
+use Rattle.aes.specs.BlockCipher.{block_cipher}
 use Rattle.cbc_mac.specs.CbcMac.{cbc_mac}
+use Rattle.cbc_mac.proofs.Chunks.{chunk-block}
 use Rattle.cbc_mac.proofs.chain.Goals as goal
 
-pub loop-at-init : goal.loop-at-init
+pub loop-x-init : goal.loop-x-init
 unfolding over_blocks
-loop-at-init c = (refl, omega arith, omega arith)
+loop-x-init c = refl
 
-pub loop-at-preserved : goal.loop-at-preserved
-loop-at-preserved c =
-    let a = c.args in (
-      over_turn (λ y x. cipher a.rounds a.keys (xor y x)) a.y a.s.now c.loop-at.at 16 c.loop-at.z _
-          (omega arith, omega arith) (omega arith) (omega arith) c.loop-at.invariant.0
-          (c.next-g.ensures ∙ ap (λ (x : List ℕ). cipher a.rounds a.keys (xor c.loop-at.z x)) c.block_at.ensures),
-      omega arith,
-      omega arith,
-    )
-
-pub returns-then-at-s : goal.returns-then-at-s
-returns-then-at-s c =
+pub loop-x-preserved : goal.loop-x-preserved
+unfolding over_blocks
+loop-x-preserved c =
     let a = c.args in
-    let m : ℕ = length a.s.now - c.loop-at.at in
-    let e : c.loop-at.at + m ≡ length a.s.now = omega arith in
-    over_turn (λ y x. cipher a.rounds a.keys (xor y x)) a.y a.s.now c.loop-at.at m c.loop-at.z _
-    (omega arith, omega arith) (omega arith) (omega arith) c.loop-at.invariant.0
-    (c.next.ensures ∙ ap (λ (x : List ℕ). cipher a.rounds a.keys (xor c.loop-at.z x)) c.block_at-then-at-s.ensures)
-    ∙ ap (λ (n : ℕ). cbc_mac (cipher a.rounds a.keys) a.y a.s.now (block_count n)) e
+    let s = a.s.now in
+    let j = c.loop-x.x-index in
+    let n = c.as_chunks.ensures.front_len in
+    let block =
+    ap (λ (l : List (List ℕ)). get_or l j []) c.as_chunks.ensures.front ∙ chunk-block (length s / 16) j s (omega arith) (omega arith) in
+    c.next-after.ensures ∙ ap₂ (λ (y x : List ℕ). block_cipher a.cipher.now (xor y x)) c.loop-x.invariant block
+    ∙ ap (cbc_mac (block_cipher a.cipher.now) a.y s) (sym (add-one j))
 
-pub returns : goal.returns
-returns c =
+pub returns-then-rest-gt0 : goal.returns-then-rest-gt0
+unfolding over_blocks
+returns-then-rest-gt0 c =
     let a = c.args in
-    let e : c.loop-at.at ≡ length a.s.now = omega arith in
-    c.loop-at.invariant.0 ∙ ap (λ (n : ℕ). cbc_mac (cipher a.rounds a.keys) a.y a.s.now (block_count n)) e
+    let s = a.s.now in
+    let j = c.loop-x.x-index in
+    let n = c.as_chunks.ensures.front_len in
+    let left = c.as_chunks.ensures.back_len in
+    let at : length s / 16 * 16 ≡ 16 * j = omega arith in
+    let count : suc j ≡ block_count (length s) = omega arith in
+    let block = c.zero_padded.ensures ∙ ap (zero_padded 16) (c.as_chunks.ensures.back ∙ ap (λ (i : ℕ). drop i s) at) in
+    c.next.ensures ∙ ap₂ (λ (y x : List ℕ). block_cipher a.cipher.now (xor y x)) c.loop-x.invariant block
+    ∙ ap (cbc_mac (block_cipher a.cipher.now) a.y s) count

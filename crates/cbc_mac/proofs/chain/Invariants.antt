@@ -1,15 +1,8 @@
 -- Right because each turn takes the next whole block into the chain, and the end the short one.
--- Assumes nothing.
 use mathlib.Core.Path.{◌≡◌}
-use Prim.Native.Nat.{◌-◌, ◌*◌, ◌≤◌}
-use lib.ListN.{length}
-use Rattle.octets.specs.Blocks.{block_count}
-use Rattle.aes.specs.Cipher.{cipher}
+use Rattle.aes.specs.BlockCipher.{block_cipher}
 use Rattle.cbc_mac.specs.CbcMac.{cbc_mac}
 use Rattle.cbc_mac.proofs.chain.Given as goal
 
-abbrev pub invariant-loop-at : goal.invariant-loop-at
-invariant-loop-at l = (l.z ≡ cbc_mac (cipher l.rounds l.keys) l.initial.z l.s (block_count l.at)) × (l.at ≡ 16 * block_count l.at) × (l.at ≤ length l.s)
-
-abbrev pub decreases-loop-at : goal.decreases-loop-at
-decreases-loop-at l = length l.s - l.at
+abbrev pub invariant-loop-x : goal.invariant-loop-x
+invariant-loop-x l = l.z ≡ cbc_mac (block_cipher l.cipher) l.initial.z l.s l.x-index

@@ -1,22 +1,5 @@
--- Right because the round keys and their number are those of the key.
--- Assumes nothing.
-use mathlib.Core.List.{List}
-use mathlib.Core.Path.{ap, ◌∙◌}
-use Prim.Native.Nat.{ℕ, ◌<◌}
-use Rattle.aes.proofs.KeySizeLaws.{keyed, positive, bounded}
-use Rattle.ccm.specs.Ccm.{encrypt}
-use borrow.Author.Rules.{rules}
+-- Right because the cipher that is made is that of the key.
 use Rattle.ccm.proofs.apply.Goals as goal
 
-pub xor_key_stream-requires : goal.xor_key_stream-requires
-xor_key_stream-requires c =
-    let r = c.rounds in
-    let p : 0 < r.result = positive c.args.key.now r.ensures in
-    let q : r.result < 15 = bounded c.args.key.now r.ensures c.requires.0 in
-    search rules
-
 pub returns : goal.returns
-returns c =
-    let a = c.args in
-    let e = keyed a.key.now c.rounds.ensures c.round_keys-keys.ensures in
-    c.xor_key_stream.ensures ∙ ap (λ (E : List ℕ → List ℕ). encrypt E a.nonce a.text.now) e
+returns c = rw (← c.new.ensures) c.encrypt.ensures

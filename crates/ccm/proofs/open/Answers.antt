@@ -1,20 +1,16 @@
--- Right because the round keys and their number are those of the key.
--- Assumes nothing.
-use Prim.Native.Nat.{◌<◌}
-use Rattle.aes.proofs.KeySizeLaws.{keyed, positive, bounded}
-use Rattle.ccm.proofs.Opening.{opened_under}
-use borrow.Author.Rules.{rules}
+-- Right because the cipher that is made is that of the key, and the key stream, applied twice, gives the text back where the tag differs.
+use Rattle.ccm.proofs.Opening.{opened-right, opened_wrong}
 use Rattle.ccm.proofs.open.Goals as goal
 
-pub open_with-requires : goal.open_with-requires
-open_with-requires c =
-    let r = c.rounds in
-    let p : 0 < r.result = positive c.args.key.now r.ensures in
-    let q : r.result < 15 = bounded c.args.key.now r.ensures c.requires.0 in
-    search rules
-
-pub returns : goal.returns
-returns c =
+pub returns-then-not-right : goal.returns-then-not-right
+returns-then-not-right c =
     let a = c.args in
-    let e = keyed a.key.now c.rounds.ensures c.round_keys-keys.ensures in
-    opened_under e c.open_with.ensures
+    rw (← c.new-cipher.ensures)
+    (opened_wrong _ a.nonce a.aad a.tag a.text.now _ _ c.encrypt.ensures c.tag-expected.ensures _ c.same_16-right.ensures _ c.if-not-right.true
+    c.encrypt-then-not-right.ensures)
+
+pub returns-else-not-right : goal.returns-else-not-right
+returns-else-not-right c =
+    let a = c.args in
+    rw (← c.new-cipher.ensures)
+    (opened-right _ a.nonce a.aad a.tag a.text.now _ _ c.encrypt.ensures c.tag-expected.ensures _ c.same_16-right.ensures c.if-not-right.false)

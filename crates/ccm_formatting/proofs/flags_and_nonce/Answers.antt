@@ -1,5 +1,4 @@
 -- Right because the nonce fills the array behind the flags octet.
--- Assumes nothing.
 use mathlib.Core.List.{◌∷◌}
 use mathlib.Core.Path.{◌≡◌, ◌∙◌}
 use native.Mathlib.Omega.{arith}

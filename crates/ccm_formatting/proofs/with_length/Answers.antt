@@ -1,5 +1,4 @@
 -- Right because the two octets of the length are 0 and 32, and the data stand behind them.
--- Assumes nothing.
 use Rattle.ccm_formatting.proofs.Formatted.{associated-right}
 use borrow.Author.Rules.{rules}
 use Rattle.ccm_formatting.proofs.with_length.Goals as goal

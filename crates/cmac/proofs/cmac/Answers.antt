@@ -1,5 +1,4 @@
 -- Right because one piece is the whole message.
--- Assumes nothing.
 use Rattle.cmac.proofs.Beginning.{new_holds}
 use Rattle.cmac.proofs.AnyState.{takes_in, ends_with}
 use Rattle.cmac.proofs.cmac.Goals as goal

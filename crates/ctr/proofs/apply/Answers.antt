@@ -1,44 +1,42 @@
-use mathlib.Core.Path.{refl, ◌∙◌}
-use Prim.Native.Nat.{ℕ, ◌+◌, ◌-◌}
+use mathlib.Core.Path.{◌≡◌, ap, ◌∙◌}
+use Prim.Native.Nat.{ℕ, ◌+◌, ◌-◌, ◌*◌, ◌/◌}
 use native.Mathlib.Omega.{arith}
 use lib.ListN.{length}
-use lib.Seq.{paste-zero}
-use Rattle.aes.specs.Cipher.{cipher}
+use lib.Seq.{paste}
+use borrow.Rule.Slice.PartMut.{put_mid}
+use Rattle.aes.specs.BlockCipher.{block_cipher}
 use Rattle.ctr.specs.Ctr.{ctr, counter_blocks}
-use Rattle.ctr.proofs.CtrLaws.{counter_turn, ctr-end}
+use Rattle.ctr.proofs.CtrLaws.{ctr_turn, ctr-end}
 use Rattle.ctr.proofs.apply.Goals as goal
 
-pub loop-text-init : goal.loop-text-init
-loop-text-init c =
+pub loop-j-preserved : goal.loop-j-preserved
+loop-j-preserved c =
     let a = c.args in
-    let text = a.text.now in
-    let E = cipher a.rounds a.keys in
-    (paste-zero text 0 (ctr E (counter_blocks a.prefix a.first) text), omega arith, omega arith, omega arith, refl)
+    let E = block_cipher a.cipher.now in
+    let T = counter_blocks a.prefix a.first in
+    let d = a.text.now in
+    let j = c.loop-j.j in
+    let m : 16 * j + 16 - 16 * j ≡ 16 = omega arith in
+    let next : 16 * j + 16 ≡ 16 * (j + 1) = omega arith in
+    ctr_turn E T d j (16 * j + 16 - 16 * j) _ c.loop-j.text _ (omega arith) (omega arith) c.encrypt_counter-stream.ensures c.loop-j.invariant
+    (ap (put_mid (16 * j) (16 * j + 16 - 16 * j) c.loop-j.text) c.xor_into.ensures)
+    ∙ ap (paste d 0 (ctr E T d)) (ap (λ (n : ℕ). 16 * j + n) m ∙ next)
 
-pub loop-text-preserved : goal.loop-text-preserved
-loop-text-preserved c =
-    let x = c.xor_at in
-    let g = c.encrypt_counter in
-    let a = c.args in (
-      counter_turn (cipher a.rounds a.keys) a.prefix a.first c.loop-text.n a.text.now c.loop-text.i 16 g.result c.loop-text.text _
-          (omega arith) (omega arith) (omega arith) (omega arith) g.ensures c.loop-text.invariant.0 x.ensures,
-      omega arith,
-      omega arith,
-      omega arith,
-      x.auto.buf ∙ c.loop-text.invariant.4,
-    )
-
-pub returns-then-i-text : goal.returns-then-i-text
-returns-then-i-text c =
-    let x = c.xor_at-then-i-text in
-    let g = c.encrypt_counter-then-i-text in
+pub returns-then-whole-text : goal.returns-then-whole-text
+returns-then-whole-text c =
     let a = c.args in
-    let m : ℕ = length c.loop-text.text - c.loop-text.i in
-    ctr-end (cipher a.rounds a.keys) (counter_blocks a.prefix a.first) a.text.now (c.loop-text.i + m) _ (omega arith)
-    (counter_turn (cipher a.rounds a.keys) a.prefix a.first c.loop-text.n a.text.now c.loop-text.i m g.result c.loop-text.text _
-    (omega arith) (omega arith) (omega arith) (omega arith) g.ensures c.loop-text.invariant.0 x.ensures)
+    let E = block_cipher a.cipher.now in
+    let T = counter_blocks a.prefix a.first in
+    let d = a.text.now in
+    let j : ℕ = length d / 16 in
+    let m : ℕ = length c.loop-j.text - 16 * j in
+    let at : c.loop-j.j ≡ j = omega arith in
+    ctr-end E T d (16 * j + m) _ (omega arith)
+    (ctr_turn E T d j m _ c.loop-j.text _ (omega arith) (omega arith) c.encrypt_counter-stream-then-whole-text.ensures
+    (c.loop-j.invariant ∙ ap (λ (n : ℕ). paste d 0 (ctr E T d) (16 * n)) at)
+    (ap (put_mid (16 * j) m c.loop-j.text) c.xor_into-then-whole-text.ensures))
 
-pub returns-else-i-text : goal.returns-else-i-text
-returns-else-i-text c =
+pub returns-else-whole-text : goal.returns-else-whole-text
+returns-else-whole-text c =
     let a = c.args in
-    ctr-end (cipher a.rounds a.keys) (counter_blocks a.prefix a.first) a.text.now c.loop-text.i c.loop-text.text (omega arith) c.loop-text.invariant.0
+    ctr-end (block_cipher a.cipher.now) (counter_blocks a.prefix a.first) a.text.now (16 * c.loop-j.j) c.loop-j.text (omega arith) c.loop-j.invariant

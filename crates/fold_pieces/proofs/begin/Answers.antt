@@ -14,4 +14,4 @@ pub returns : goal.returns
 returns c =
     let v = c.args.chain.now in
     let h = c.update.ensures ∙ ap (λ (s : Sha512). updated s v) c.new.ensures in
-    begin_done v c.if-chain-ne64.false h c.step-2.ensures
+    begin_done v c.if-chain-ne64.false h c.ended-2.ensures c.step-2.ensures

@@ -1,19 +1,16 @@
--- Right because the round keys and their number are those of the key.
-use Prim.Native.Nat.{◌<◌}
-use borrow.Author.Rules.{rules}
-use Rattle.aes.proofs.KeySizeLaws.{keyed, positive, bounded}
-use Rattle.gcm.proofs.InPlace.{opened_under}
+-- Right because the cipher that is made is that of the key, and the text is decrypted only where its tag is right.
+use mathlib.Core.Path.{sym, ◌∙◌}
+use Rattle.gcm.proofs.InPlace.{opened-right, opened_wrong}
 use Rattle.gcm.proofs.open.Goals as goal
 
-pub open_with-requires : goal.open_with-requires
-open_with-requires c =
-    let r = c.rounds in
-    let p : 0 < r.result = positive c.args.key.now r.ensures in
-    let q : r.result < 15 = bounded c.args.key.now r.ensures c.requires.0 in
-    search rules
+pub returns-then-same_16 : goal.returns-then-same_16
+returns-then-same_16 c =
+    let a = c.args in
+    rw (← c.new-cipher.ensures)
+    (opened-right _ a.nonce a.aad.now a.tag a.text.now _ c.tag-expected.ensures _ (sym c.same_16.ensures ∙ c.if-same_16.true) c.encrypt.ensures)
 
 pub returns : goal.returns
 returns c =
     let a = c.args in
-    let e = keyed a.key.now c.rounds.ensures c.round_keys-keys.ensures in
-    opened_under e c.open_with.ensures
+    rw (← c.new-cipher.ensures)
+    (opened_wrong _ a.nonce a.aad.now a.tag a.text.now _ c.tag-expected.ensures (sym c.same_16.ensures ∙ c.if-same_16.false))

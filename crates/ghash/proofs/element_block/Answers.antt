@@ -11,9 +11,9 @@ use Rattle.ghash.proofs.element_block.Goals as goal
 pub returns : goal.returns
 returns c =
     let e = c.args.e in
-    let la : length c.u64_bytes-a.result ≡ 8 = search rules in
-    let lb : length c.u64_bytes-b.result ≡ 8 = search rules in
-    two_runs (replicate 16 0) c.u64_bytes-a.result c.u64_bytes-b.result c.copy.new.dst _ 8 la (ap (λ (n : ℕ). 8 + n) (sym lb))
+    let la : length c.to_bytes.result ≡ 8 = search rules in
+    let lb : length c.to_bytes-2.result ≡ 8 = search rules in
+    two_runs (replicate 16 0) c.to_bytes.result c.to_bytes-2.result c.copy.new.dst _ 8 la (ap (λ (n : ℕ). 8 + n) (sym lb))
     c.copy.ensures c.copy-2.ensures
-    ∙ ap₂ (λ (x y : List ℕ). x ++ y) c.u64_bytes-a.ensures c.u64_bytes-b.ensures
+    ∙ ap₂ (λ (x y : List ℕ). x ++ y) c.to_bytes.ensures c.to_bytes-2.ensures
     ∙ block_is e.hi e.lo (search rules)

@@ -9,4 +9,4 @@ use Rattle.ghash.proofs.update_lengths.Goals as goal
 pub returns : goal.returns
 returns c =
     let a = c.args in
-    λ h p. c.update.ensures h p ∙ ap (ghash_from h (element_of a.y.y)) (c.element_block-x.ensures ∙ sym (block_is a.a a.b (search rules)))
+    c.update.ensures ∙ ap (ghash_from a.k.now (element_of a.y.y)) (c.element_block-x.ensures ∙ sym (block_is a.a a.b (search rules)))

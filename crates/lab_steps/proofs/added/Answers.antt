@@ -18,13 +18,13 @@ returns-then-payload-lt24 c = λ h. absurd (omega arith)
 pub returns : goal.returns
 returns c = λ h.
     let a = c.args in
-    let s = state_of a.from in
+    let s = state_of a.lab.now in
     let m = a.payload.now in
     let call : ℕ → Call = λ (x : ℕ).
     adding (record { dialect = s.dialect; cipher = s.cipher; chain = s.session; id = x; material = bytes_at 8 16 m; guest = false; anonymous = false }) in
     let w = only_table s.table in
-    let r = c.add_in-r.ensures.0 in
-    let id = c.u64_at.ensures in (
-      r.number ∙ ap (λ (x : ℕ). answer_number (answer suite (call x) w)) id,
+    let r = c.add-added.ensures.0 in
+    let id = c.number_at.ensures.value in (
+      c.number.ensures ∙ r.number ∙ ap (λ (x : ℕ). answer_number (answer suite (call x) w)) id,
       ap {B = State} (λ (x : Lent). joined x.table s) r.leaves ∙ ap {B = State} (λ (x : ℕ). joined (left suite (call x) w).table s) id,
     )

@@ -1,6 +1,7 @@
 -- Right because the receiver's connection is the one opened with.
 -- Assumes nothing.
 use mathlib.Core.Path.{ap, ◌∙◌}
+use Rattle.answer.proofs.Results.{numbered}
 use Rattle.protocol.specs.Answer.{answer_number}
 use Rattle.protocol.specs.Bytes.{Bytes}
 use Rattle.protocol.specs.Calls.{Lent, opening, message_and_table, answer, left}
@@ -12,9 +13,9 @@ use Rattle.lab_steps.proofs.opened.Goals as goal
 pub returns : goal.returns
 returns c =
     let a = c.args in
-    let w = message_and_table a.message.now (state_of a.lab).table in
-    let o = c.open_in.ensures in
-    let who = c.receiver-c.ensures in (
-      c.number.ensures ∙ ap answer_number (o.answers ∙ ap (λ (x : Connection). answer suite (opening x) w) who),
+    let w = message_and_table a.message.now (state_of a.lab.now).table in
+    let o = c.«open».ensures in
+    let who = c.receiver-receiver.ensures in (
+      c.number.ensures ∙ numbered _ ∙ ap answer_number (o.answers ∙ ap (λ (x : Connection). answer suite (opening x) w) who),
       ap (λ (x : Lent). x.message) o.leaves ∙ ap {B = Bytes} (λ (x : Connection). (left suite (opening x) w).message) who,
     )

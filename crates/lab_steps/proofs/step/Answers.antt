@@ -8,18 +8,18 @@ use Rattle.lab_steps.proofs.step.Goals as goal
 pub returns-then-kind-eq0 : goal.returns-then-kind-eq0
 returns-then-kind-eq0 c = λ h.
     let a = c.args in
-    step_0 a.kind a.from_server a.payload.now _ (state_of a.from) _ _ c.if-kind-eq0.true c.negotiate.ensures refl
+    step_0 a.kind a.from_server a.payload.now _ (state_of a.lab.now) _ _ c.if-kind-eq0.true c.negotiate.ensures refl
 
 pub returns-then-kind-eq1 : goal.returns-then-kind-eq1
 returns-then-kind-eq1 c = λ h.
     let a = c.args in
-    step_1 a.kind a.from_server a.payload.now _ (state_of a.from) _ _ c.if-kind-eq0.false c.if-kind-eq1.true
+    step_1 a.kind a.from_server a.payload.now _ (state_of a.lab.now) _ _ c.if-kind-eq0.false c.if-kind-eq1.true
     c.setup.ensures refl
 
 pub returns-then-kind-eq2 : goal.returns-then-kind-eq2
 returns-then-kind-eq2 c = λ h.
     let a = c.args in
-    step_2 a.kind a.from_server a.payload.now _ (state_of a.from) _ _ c.if-kind-eq0.false c.if-kind-eq1.false c.if-kind-eq2.true
+    step_2 a.kind a.from_server a.payload.now _ (state_of a.lab.now) _ _ c.if-kind-eq0.false c.if-kind-eq1.false c.if-kind-eq2.true
     c.opened.ensures refl
 
 pub returns : goal.returns
@@ -28,4 +28,4 @@ returns c = λ h.
     let n0 = c.if-kind-eq0.false in
     let n1 = c.if-kind-eq1.false in
     let n2 = c.if-kind-eq2.false in
-    step_3 a.kind a.from_server a.payload.now _ (state_of a.from) _ _ n0 n1 n2 (c.added.ensures (h (three a.kind n0 n1 n2))) refl
+    step_3 a.kind a.from_server a.payload.now _ (state_of a.lab.now) _ _ n0 n1 n2 (c.added.ensures (h (three a.kind n0 n1 n2))) refl

@@ -1,37 +1,27 @@
 -- Right because the lines are tested one after the other, and what passes is opened under the record's key (Opening).
 -- Assumes nothing.
-use mathlib.Core.Path.{sym, ◌∙◌}
-use Rattle.connection.specs.Reading.{flag, connection_of}
-use Rattle.transform_header.specs.Reading.{header_from}
+use mathlib.Core.Path.{◌≡◌, sym, ap, ◌∙◌}
+use lib.ListN.{length}
+use borrow.Author.Rules.{rules}
+use Rattle.std.proofs.lemmas.Result.{IfOk-at_ok}
+use Rattle.connection.specs.Reading.{connection_of}
+use Rattle.protocol.specs.SessionTable.{opening_key}
+use Rattle.protocol.specs.TransformHeader.{session_id_of}
 use Rattle.session_record.specs.Reading.{session_of}
-use Rattle.session_record.proofs.KeyLaws.{lent-inside, lent_length, lent_is}
 use Rattle.session_calls.proofs.Opening.{open_refused, open_done}
 use Rattle.session_calls.proofs.open_record.Goals as goal
 
-pub returns-then-first-ne0 : goal.returns-then-first-ne0
-returns-then-first-ne0 c =
+pub returns-in_err-id : goal.returns-in_err-id
+returns-in_err-id c =
     let a = c.args in
-    open_refused (connection_of a.c) (session_of a.s) a.message.now (header_from _) _ _ _ c.read_header-h.ensures
-    c.record_number-line6.ensures c.header_number-line4.ensures c.message_number-first.ensures c.if-first-ne0.true
-
-pub slice_bounds-key-end : goal.slice_bounds-key-end
-slice_bounds-key-end c =
-    let a = c.args in
-    lent-inside (flag a.s.wide) _ c.key_bytes-bytes.ensures c.opening_key-key.result c.opening_key-key.type_inv.1.0.1
-
-pub slice_bounds-open_under-end : goal.slice_bounds-open_under-end
-slice_bounds-open_under-end c =
-    let key = c.opening_key-key in
-    let a = c.args in
-    sym (lent_length (flag a.s.wide) _ c.key_bytes-bytes.ensures _ key.type_inv.1.0.1)
+    let no = open_refused (connection_of a.c) (session_of a.s.now) a.message.now _ c.open_tests.ensures.number _ c.in_err-id.was in
+    search (rules, no)
 
 pub returns : goal.returns
 returns c =
     let a = c.args in
-    let wide = flag a.s.wide in
-    let bytes = c.key_bytes-bytes.ensures in
-    let key = c.opening_key-key in
-    let size = key.type_inv.1.0.1 in
-    open_done (connection_of a.c) (session_of a.s) a.message.now (header_from _) _ _ _ c.read_header-h.ensures
-    c.record_number-line6.ensures c.header_number-line4.ensures c.message_number-first.ensures c.if-first-ne0.false _
-    (lent_is wide _ bytes _ size _ key.ensures) (lent_length wide _ bytes _ size ∙ bytes) _ _ c.open_under.ensures
+    let s = session_of a.s.now in
+    let named = IfOk-at_ok (λ id. id ≡ session_id_of a.message.now) c.in_ok-id.was c.open_tests.ensures.named in
+    let key = c.opening_key.ensures.key ∙ ap (λ r. opening_key r s.keys) c.role.ensures in
+    open_done (connection_of a.c) s a.message.now _ c.open_tests.ensures.number _ c.in_ok-id.was named _ key
+    (sym (ap length key) ∙ c.opening_key.ensures.size) _ _ c.open_under.ensures

@@ -1,36 +1,24 @@
 -- Right because the lines are tested one after the other, and what passes is sealed under the record's key (Sealing).
 -- Assumes nothing.
-use mathlib.Core.Path.{sym, ◌∙◌}
-use Rattle.connection.specs.Reading.{flag, connection_of}
+use mathlib.Core.Path.{sym, ap, ◌∙◌}
+use lib.ListN.{length}
+use borrow.Author.Rules.{rules}
+use Rattle.connection.specs.Reading.{connection_of}
+use Rattle.protocol.specs.SessionTable.{sealing_key}
 use Rattle.session_record.specs.Reading.{session_of}
-use Rattle.session_record.proofs.KeyLaws.{lent-inside, lent_length, lent_is}
 use Rattle.session_calls.proofs.Sealing.{seal_refused, seal_done}
 use Rattle.session_calls.proofs.seal_record.Goals as goal
 
-pub returns-then-first-ne0 : goal.returns-then-first-ne0
-returns-then-first-ne0 c =
+pub returns-in_err-lines_before : goal.returns-in_err-lines_before
+returns-in_err-lines_before c =
     let a = c.args in
-    seal_refused (connection_of a.c) (session_of a.s) a.id a.message.now _ _ c.record_number-line6.ensures
-    c.message_number-first.ensures c.if-first-ne0.true
-
-pub slice_bounds-key-end : goal.slice_bounds-key-end
-slice_bounds-key-end c =
-    let a = c.args in
-    lent-inside (flag a.s.wide) _ c.key_bytes-bytes.ensures c.sealing_key-key.result c.sealing_key-key.type_inv.1.0.1
-
-pub slice_bounds-seal_under-end : goal.slice_bounds-seal_under-end
-slice_bounds-seal_under-end c =
-    let key = c.sealing_key-key in
-    let a = c.args in
-    sym (lent_length (flag a.s.wide) _ c.key_bytes-bytes.ensures _ key.type_inv.1.0.1)
+    let no = seal_refused (connection_of a.c) (session_of a.s.now) a.id a.message.now _ c.lines_before.ensures _ c.in_err-lines_before.was in
+    search (rules, no)
 
 pub returns : goal.returns
 returns c =
     let a = c.args in
-    let wide = flag a.s.wide in
-    let bytes = c.key_bytes-bytes.ensures in
-    let key = c.sealing_key-key in
-    let size = key.type_inv.1.0.1 in
-    seal_done (connection_of a.c) (session_of a.s) a.id a.message.now _ _ c.record_number-line6.ensures
-    c.message_number-first.ensures c.if-first-ne0.false _ (lent_is wide _ bytes _ size _ key.ensures) (lent_length wide _ bytes _ size ∙ bytes) _ _ _
-    c.seal_under-sealed.ensures
+    let s = session_of a.s.now in
+    let key = c.sealing_key.ensures.key ∙ ap (λ r. sealing_key r s.keys) c.role.ensures in
+    seal_done (connection_of a.c) s a.id a.message.now _ c.lines_before.ensures _ c.in_ok-lines_before.was _ key
+    (sym (ap length key) ∙ c.sealing_key.ensures.size) _ _ _ c.seal_under.ensures

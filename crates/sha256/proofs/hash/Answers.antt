@@ -1,7 +1,6 @@
 -- Right because one piece is the whole message.
--- Assumes nothing.
-use Rattle.std.proofs.Common.{[]}
+use Rattle.sha256.proofs.Pieces.{new_holds, takes_in, ends_with}
 use Rattle.sha256.proofs.hash.Goals as goal
 
 pub returns : goal.returns
-returns c = c.finish.ensures c.args.msg.now (c.update.ensures [] c.new.ensures)
+returns c = ends_with _ c.finish.ensures (takes_in _ _ c.update.ensures (new_holds _ c.new.ensures))

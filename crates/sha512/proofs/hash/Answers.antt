@@ -1,5 +1,4 @@
 -- Right because one piece is the whole message.
--- Assumes nothing.
 use Rattle.std.proofs.Common.{arith}
 use Rattle.sha512.proofs.Beginning.{new_holds}
 use Rattle.sha512.proofs.AnyState.{takes_in, ends_with}

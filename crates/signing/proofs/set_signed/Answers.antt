@@ -13,9 +13,9 @@ use Rattle.signing.proofs.set_signed.Goals as goal
 pub returns : goal.returns
 unfolding with_signed_flag
 returns c =
-    let flags = c.u32_bytes-flags in
-    let read = c.u32_at in
+    let flags = c.to_bytes-flags in
+    let read = c.number_at in
     let m = c.args.m.now in
     c.copy.ensures
     ∙ flagged_is flags.result m flags.type_inv.1.0.1
-    ∙ ap (λ (l : List ℕ). take 16 m ++ (l ++ drop 20 m)) (flags.ensures ∙ ap (λ (n : ℕ). to_little_endian 4 (bit_or n 8)) read.ensures)
+    ∙ ap (λ (l : List ℕ). take 16 m ++ (l ++ drop 20 m)) (flags.ensures ∙ ap (λ (n : ℕ). to_little_endian 4 (bit_or n 8)) read.ensures.value)

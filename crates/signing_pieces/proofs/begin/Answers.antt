@@ -14,5 +14,5 @@ pub returns : goal.returns
 returns c =
     let key = c.args.key.now in
     let size = c.if-key-ne16.false in
-    let own = c.bytes_16-own.ensures ∙ take_all 16 key (le_of_eq size) in
-    begin_done key size own c.new.ensures c.step-2.ensures
+    let own = c.bytes_at.ensures ∙ take_all 16 key (le_of_eq size) in
+    begin_done key size own c.ended-2.ensures c.step-2.ensures

@@ -9,4 +9,4 @@ returns c =
     let a = c.args in
     reported (λ (k : Connection). sealing_under k a.key.now a.id) _ _ c.under_key-c.ensures
     (message_and_counter a.message.now a.counter.now) _ _
-    c.seal_under-sealed.ensures _ c.report.ensures.0 _ _ c.report.ensures.1
+    c.seal_under-answer.ensures _ c.report.ensures.0 _ _ c.report.ensures.1

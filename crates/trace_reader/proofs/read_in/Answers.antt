@@ -1,17 +1,13 @@
 -- Right because the head's edition is the one that the record is read by (FormatLaws).
 -- Assumes nothing.
-use mathlib.Core.Path.{sym, ap, ◌∙◌}
-use Rattle.trace_reader.specs.Answers.{file_reading_of}
+use Rattle.std.proofs.lemmas.Result.{err_from_is_err_and}
 use Rattle.trace_format.proofs.FormatLaws.{in_bad, in_good}
 use Rattle.trace_reader.proofs.read_in.Goals as goal
 
-pub returns-in_default : goal.returns-in_default
-returns-in_default c =
-    let a = c.args in
-    in_bad a.file.now a.at (ap file_reading_of (sym c.in_default.is) ∙ c.read_file_head.ensures)
+pub returns-in_err-head : goal.returns-in_err-head
+returns-in_err-head c =
+    let p = err_from_is_err_and c.from_residual.result c.from_residual.ensures.1 in
+    rw p.1 (in_bad c.args.file.now c.args.at c.in_err-head.ensures)
 
 pub returns : goal.returns
-returns c =
-    let a = c.args in
-    let head = ap file_reading_of (sym c.in-Good.is) ∙ c.read_file_head.ensures in
-    in_good a.file.now a.at _ _ _ head _ c.read_record.ensures
+returns c = in_good c.args.file.now c.args.at _ _ _ c.in_ok-head.ensures _ c.read_record.ensures

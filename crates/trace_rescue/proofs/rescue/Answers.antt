@@ -1,50 +1,29 @@
 -- Right because each return stands under the tests of `roomy` (RescueLaws).
 -- Assumes nothing.
-use mathlib.Core.Bool.{not}
-use Rattle.trace_reader.specs.Answers.{file_reading_of}
-use mathlib.Core.Path.{sym, ap, ◌∙◌}
-use native.Mathlib.Omega.{arith}
-use Rattle.trace_rescue.proofs.RescueLaws.{head-unreadable, head-there, room_small, room-there, sum_fits, rescued}
+use Rattle.std.proofs.lemmas.Result.{err_from_is_err_and}
+use Rattle.trace_rescue.proofs.RescueLaws.{head-unreadable, head-there, room_small, room-there, rescued}
 use Rattle.trace_rescue.proofs.rescue.Goals as goal
 
-pub returns-in_default : goal.returns-in_default
-returns-in_default c =
+pub returns-in_err-head : goal.returns-in_err-head
+returns-in_err-head c =
     let a = c.args in
-    let head = ap file_reading_of (sym c.in_default.is) ∙ c.read_file_head.ensures in
-    head-unreadable a.file.now a.room.now a.list.now head
+    let p = err_from_is_err_and c.from_residual.result c.from_residual.ensures.1 in
+    rw p.1 (head-unreadable a.file.now a.room.now a.list.now c.in_err-head.ensures)
 
-pub measure-s-requires : goal.measure-s-requires
-measure-s-requires c =
-    let a = c.args in
-    let head = ap file_reading_of (sym c.in-Good.is) ∙ c.read_file_head.ensures in
-    head-there a.file.now a.room.now a.list.now _ _ _ head
+pub measure-sizes-requires : goal.measure-sizes-requires
+measure-sizes-requires c = let a = c.args in head-there a.file.now a.room.now a.list.now _ _ _ c.in_ok-head.ensures
 
-pub returns-then-not-fits : goal.returns-then-not-fits
-returns-then-not-fits c =
+pub returns-then-not-fit : goal.returns-then-not-fit
+returns-then-not-fit c =
     let a = c.args in
-    let head = ap file_reading_of (sym c.in-Good.is) ∙ c.read_file_head.ensures in
-    room_small a.file.now a.room.now a.list.now _ _ _ head _ c.measure-s.ensures _ c.fits.ensures (ap not c.if-not-fits.true)
+    room_small a.file.now a.room.now a.list.now _ _ _ c.in_ok-head.ensures _ c.measure-sizes.ensures _ c.fit.ensures c.if-not-fit.true
 
 pub write_file-requires : goal.write_file-requires
 write_file-requires c =
     let a = c.args in
-    let head = ap file_reading_of (sym c.in-Good.is) ∙ c.read_file_head.ensures in
-    room-there a.file.now a.room.now a.list.now _ _ _ head _ c.measure-s.ensures _ c.fits.ensures
-    (ap not c.if-not-fits.false)
-
-pub overflow_add-result : goal.overflow_add-result
-overflow_add-result c =
-    let a = c.args in
-    let bounds = c.well_formed in
-    let head = ap file_reading_of (sym c.in-Good.is) ∙ c.read_file_head.ensures in
-    let h =
-    sum_fits a.file.now a.room.now a.list.now _ _ _ head _ c.measure-s.ensures _ c.fits.ensures
-    (ap not c.if-not-fits.false) in
-    omega arith
+    room-there a.file.now a.room.now a.list.now _ _ _ c.in_ok-head.ensures _ c.measure-sizes.ensures _ c.fit.ensures c.if-not-fit.false
 
 pub returns : goal.returns
 returns c =
     let a = c.args in
-    let head = ap file_reading_of (sym c.in-Good.is) ∙ c.read_file_head.ensures in
-    rescued a.file.now a.room.now a.list.now _ _ _ head _ c.measure-s.ensures _ c.fits.ensures
-    (ap not c.if-not-fits.false) _ _ c.write_file.ensures
+    rescued a.file.now a.room.now a.list.now _ _ _ c.in_ok-head.ensures _ c.measure-sizes.ensures _ c.fit.ensures c.if-not-fit.false _ _ c.write_file.ensures

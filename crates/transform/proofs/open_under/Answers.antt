@@ -1,41 +1,37 @@
 -- Right because the lines before the tag refuse and leave the message alone, or pass (Opening).
-use mathlib.Core.Path.{◌∙◌}
+use mathlib.Core.Path.{ap, ◌∙◌}
+use borrow.Author.Rules.{rules}
 use Rattle.connection.specs.Reading.{connection_of}
-use Rattle.transform_header.proofs.HeaderIn.{header-there}
+use Rattle.protocol.specs.Calls.{sent_by}
+use Rattle.protocol.specs.Connection.{other}
 use Rattle.protocol.proofs.First.{key_length}
 use Rattle.transform.proofs.Inner.{sized}
-use Rattle.transform.proofs.Opening.{lines-chained, lines_refuse, lines-passed, message-opens}
+use Rattle.transform.proofs.Opening.{lines_refuse, lines-passed, header_is, message-opens}
 use Rattle.transform.proofs.open_under.Goals as goal
 
-pub returns-then-first-ne0 : goal.returns-then-first-ne0
-returns-then-first-ne0 c =
+pub returns-in_err-h : goal.returns-in_err-h
+returns-in_err-h c =
     let a = c.args in
-    let said = lines-chained (connection_of a.c) a.key.now a.id a.message.now _ _ _ _ _ c.read_header-h.ensures
-    c.refuse-line6.ensures
-    c.header_number-line4.ensures c.message_number-line1.ensures c.key_number-first.ensures in
-    lines_refuse (connection_of a.c) a.key.now a.id a.message.now _ said c.if-first-ne0.true
+    let no = lines_refuse (connection_of a.c) a.key.now a.id a.message.now _ c.open_tests.ensures _ c.in_err-h.was in
+    search (rules, no)
+
+pub invariant_of-keyed : goal.invariant_of-keyed
+invariant_of-keyed c =
+    let a = c.args in
+    let first = lines-passed (connection_of a.c) a.key.now a.id a.message.now _ c.open_tests.ensures _ c.in_ok-h.was in
+    record { sized = key_length (connection_of a.c) a.key.now a.message.now first }
 
 pub open_message-requires : goal.open_message-requires
 open_message-requires c =
-    let a = c.args in
-    let said = lines-chained (connection_of a.c) a.key.now a.id a.message.now _ _ _ _ _
-    c.read_header-h.ensures c.refuse-line6.ensures
-    c.header_number-line4.ensures c.message_number-line1.ensures c.key_number-first.ensures in
-    let first = lines-passed (connection_of a.c) a.key.now a.id a.message.now _ said c.if-first-ne0.false in (
-      key_length (connection_of a.c) a.key.now a.message.now first,
-      (
-        c.read_header-h.ensures ∙ header-there a.message.now first.long,
-        sized (connection_of a.c)
-            a.key.now a.message.now first,
-      ),
+    let a = c.args in (
+      header_is (connection_of a.c) a.key.now a.id a.message.now _ c.open_tests.ensures _ c.in_ok-h.was,
+      sized (connection_of a.c) a.key.now a.message.now
+          (lines-passed (connection_of a.c) a.key.now a.id a.message.now _ c.open_tests.ensures _ c.in_ok-h.was),
     )
 
 pub returns : goal.returns
 returns c =
     let a = c.args in
-    let said = lines-chained (connection_of a.c) a.key.now a.id a.message.now _ _ _ _ _ c.read_header-h.ensures
-    c.refuse-line6.ensures
-    c.header_number-line4.ensures c.message_number-line1.ensures c.key_number-first.ensures in
-    message-opens (connection_of a.c) a.key.now a.id a.message.now _ said c.if-first-ne0.false _ _ _ _
-    c.cipher_used-used.ensures c.received-e.ensures
-    c.open_message.ensures
+    let received = c.received.ensures ∙ ap (λ r. sent_by (other r) a.id) c.role.ensures in
+    message-opens (connection_of a.c) a.key.now a.id a.message.now _ c.open_tests.ensures _ c.in_ok-h.was _ _ _ _ c.cipher_used.ensures
+    received c.open_message.ensures

@@ -4,6 +4,4 @@ use Rattle.transform_header.proofs.Runs.{nonce-put}
 use Rattle.transform_header.proofs.nonce.Goals as goal
 
 pub returns : goal.returns
-returns c =
-    let u64-bytes = c.u64_bytes-c in
-    nonce-put c.args.counter _ _ u64-bytes.ensures c.copy.ensures
+returns c = nonce-put c.args.counter _ _ c.to_bytes.ensures c.copy.ensures

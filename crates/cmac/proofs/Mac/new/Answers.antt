@@ -1,5 +1,4 @@
 -- Right because every byte is 0.
--- Assumes nothing.
 use mathlib.Core.Path.{refl}
 use Rattle.cmac.specs.Running.{nothing_taken}
 use Rattle.cmac.proofs.Mac.new.Goals as goal

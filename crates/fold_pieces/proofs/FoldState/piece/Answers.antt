@@ -13,21 +13,21 @@ use Rattle.fold_pieces.proofs.StateLaws.{piece_refused, piece_taken}
 use borrow.Author.Rules.{rules}
 use Rattle.fold_pieces.proofs.FoldState.piece.Goals as goal
 
-pub returns-then-not-self-fits : goal.returns-then-not-self-fits
-returns-then-not-self-fits c =
+pub returns-then-not-takes : goal.returns-then-not-takes
+returns-then-not-takes c =
     let a = c.args in
-    let e = ap (λ (b : Bool). flag a.self.underway && b) (sym c.fits.ensures) ∙ not-true _ (ap not c.if-not-self-fits.true) in
+    let e = ap (λ (b : Bool). flag a.self.underway && b) (sym c.fits.ensures) ∙ not-true _ (ap not c.if-not-takes.true) in
     piece_refused a.self a.piece.now e c.step.ensures
 
 pub overflow_add-state : goal.overflow_add-state
 overflow_add-state c =
     let a = c.args in
-    let fit = (and_true (flag a.self.underway) _ (not-false _ (ap not c.if-not-self-fits.false))).1 in
+    let fit = (and_true (flag a.self.underway) _ (not-false _ (ap not c.if-not-takes.false))).1 in
     let h = leb-true (a.self.joined + length a.piece.now) longest_message (sym c.fits.ensures ∙ fit) in
     search rules
 
 pub returns : goal.returns
 returns c =
     let a = c.args in
-    let e = ap (λ (b : Bool). flag a.self.underway && b) (sym c.fits.ensures) ∙ not-false _ (ap not c.if-not-self-fits.false) in
+    let e = ap (λ (b : Bool). flag a.self.underway && b) (sym c.fits.ensures) ∙ not-false _ (ap not c.if-not-takes.false) in
     piece_taken a.self a.piece.now e c.update.ensures c.head_with.ensures c.step-2.ensures

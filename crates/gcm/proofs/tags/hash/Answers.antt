@@ -7,8 +7,7 @@ use Rattle.gcm.proofs.tags.hash.Goals as goal
 pub returns : goal.returns
 returns c =
     let args = c.args in
-    λ h k.
     c.block_of.ensures
     ∙ ap (to_big_endian 16)
-    (hash_parts h args.aad.now args.body.now _ _ _ _
-    c.start.ensures (c.update-y.ensures h k) (c.update-z.ensures h k) (c.update_lengths-s.ensures h k))
+    (hash_parts args.k.now args.aad.now args.body.now _ _ _ _
+    c.start.ensures c.update-y.ensures c.update-z.ensures c.update_lengths-s.ensures)

@@ -6,4 +6,4 @@ use Rattle.ghash.proofs.load.element.Goals as goal
 
 pub returns : goal.returns
 returns c =
-    ap₂ join c.u64_at.ensures c.u64_at-2.ensures ∙ words-at c.args.s.now c.args.at c.requires
+    ap₂ join c.number_at.ensures.value c.number_at-2.ensures.value ∙ words-at c.args.s.now c.args.at c.requires

@@ -5,4 +5,4 @@ use Rattle.ghash_field.proofs.terms.bit_times.Goals as goal
 
 pub returns : goal.returns
 returns c =
-    masked c.args.b c.wrapping_sub_u64.result c.args.x (search rules) (search rules) (search rules) (search rules)
+    masked c.args.b c.wrapping_neg.result c.args.x (search rules) (search rules) (search rules) (search rules)

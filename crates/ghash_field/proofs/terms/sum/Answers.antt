@@ -5,7 +5,7 @@ use Rattle.ghash_field.proofs.terms.sum.Goals as goal
 
 pub returns : goal.returns
 returns c =
-    c.add-3.ensures
+    c.bitxor-3.ensures
     ∙ ap₂ bit_xor
-    (c.add.ensures ∙ ap₂ bit_xor c.select.ensures c.select-2.ensures)
-    (c.add-2.ensures ∙ ap₂ bit_xor c.select-3.ensures c.select-4.ensures)
+    (c.bitxor.ensures ∙ ap₂ bit_xor c.select.ensures c.select-2.ensures)
+    (c.bitxor-2.ensures ∙ ap₂ bit_xor c.select-3.ensures c.select-4.ensures)

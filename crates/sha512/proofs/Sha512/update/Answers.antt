@@ -1,32 +1,15 @@
--- Right because each way makes of the fields what the definition makes of them.
--- Assumes nothing.
-use Rattle.std.proofs.Common.{◌≡◌, length, sym, ◌∙◌, arith, length-take-le}
-use lib.ListN.{length-map}
-use Rattle.sha512.proofs.AnyState.{updated-within, updated-beyond}
+-- Right because the running hash with these fields takes in the piece.
+use Rattle.std.proofs.Common.{ℕ, sym, ap, ◌∙◌}
+use Rattle.sha_2.specs.Running as running
+use Rattle.sha_2.specs.Running.{State}
+use Rattle.sha_2.specs.Sha512.{sha512}
+use Rattle.sha_2_running.proofs.Held.{state_is}
+use Rattle.sha512.specs.Code.{of, updated}
 use Rattle.sha512.proofs.Sha512.update.Goals as goal
 
-pub copy-requires : goal.copy-requires
-copy-requires c = let r = (let it : length c.args.self.buffer ≡ 128 = c.well_formed.0.1.1.1.0.1.0.1 in it) in omega arith
-
-pub returns-then-piece-room : goal.returns-then-piece-room
-returns-then-piece-room c =
-    let t = c.if-piece-room.true in
-    let n = c.wrapping_add_u64-count.ensures.value in
-    let a = c.args in
-    updated-within a.self a.piece.now n t c.copy.ensures
-
-pub slice_bounds-copy-end-3 : goal.slice_bounds-copy-end-3
-slice_bounds-copy-end-3 c =
-    sym (length-take-le _ c.args.piece.now c.if-piece-room.false)
-
-pub copy-requires-2 : goal.copy-requires-2
-copy-requires-2 c =
-    let r = (let it : length c.args.self.buffer ≡ 128 = c.well_formed.0.1.1.1.0.1.0.1 in it) in
-    omega (arith, length-take-le _ c.args.piece.now c.if-piece-room.false)
-
 pub returns : goal.returns
+unfolding updated
 returns c =
-    let n = c.wrapping_add_u64-count.ensures.value in
-    let a = c.args in
-    updated-beyond a.self a.piece.now n c.if-piece-room.false c.copy-2.ensures c.buffer-3-1.given c.hash_blocks-first.ensures
-    c.hash_blocks.ensures c.copy-3.ensures
+    let s = c.args.self in
+    ap of (sym (state_is c.update-r.result) ∙ c.update-r.ensures
+    ∙ ap (λ (t : State). running.updated sha512 t c.args.piece.now) (state_is {rounds = 80} {block = 128} {digest = 64} (record { hash = s.hash; buffer = s.buffer; count = s.count })))

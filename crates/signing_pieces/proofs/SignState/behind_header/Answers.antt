@@ -6,4 +6,4 @@ use Rattle.signing_pieces.proofs.SignState.behind_header.Goals as goal
 pub returns : goal.returns
 returns c =
     let a = c.args in
-    behind_is a.self a.piece.now c.expand_key-keys.ensures c.update.ensures
+    behind_is a.self a.piece.now c.cipher.ensures c.update.ensures

@@ -22,15 +22,15 @@ filled-whole-requires c =
     let l = length-take-le (64 - c.args.self.length) c.args.piece.now (omega (arith, c.if-piece-room.false)) in
     omega (arith, c.requires.0)
 
-pub overflow_add-result-2 : goal.overflow_add-result-2
-overflow_add-result-2 c =
+pub overflow_add-length : goal.overflow_add-length
+overflow_add-length c =
     omega (arith, c.requires.1)
 
 pub returns : goal.returns
 returns c =
-    let keys = c.expand_key-keys in
+    let cipher = c.cipher-cipher in
     let a = c.args in
     let piece = a.piece.now in
     let cut = 64 - a.self.length in
-    into_whole a.self piece c.if-piece-room.false c.filled-whole.ensures keys.ensures c.covered-signed.ensures
+    into_whole a.self piece c.if-piece-room.false c.filled-whole.ensures cipher.ensures c.covered.ensures
     (part_all piece cut) c.new.ensures c.update-code.ensures c.update.ensures

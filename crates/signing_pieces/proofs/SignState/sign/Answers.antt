@@ -6,5 +6,5 @@ use Rattle.signing_pieces.proofs.SignState.sign.Goals as goal
 
 pub returns : goal.returns
 returns c =
-    let wrote = c.signed-number.ensures in
+    let wrote = c.signed-judged.ensures in
     record { hands_back = c.step.ensures ∙ ap₂ step_with c.ended.ensures wrote.0; leaves = wrote.1 }

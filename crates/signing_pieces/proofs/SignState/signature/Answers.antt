@@ -12,4 +12,4 @@ pub returns : goal.returns
 unfolding signature_from
 returns c =
     let s = c.args.self in
-    c.finish.ensures ∙ ap (λ (k : List (List ℕ)). finished (block_cipher k) s.code) c.expand_key-keys.ensures
+    c.finish.ensures ∙ ap (λ (k : List (List ℕ)). finished (block_cipher k) s.code) c.cipher.ensures

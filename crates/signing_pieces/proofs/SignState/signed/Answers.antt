@@ -1,33 +1,32 @@
 -- Right because a refusal comes before a byte is written, and else the signature fills its place.
 -- Assumes nothing.
-use mathlib.Core.Path.{◌≡◌, sym, ◌∙◌}
-use native.Mathlib.Nat.{le_of_eq, zero-add}
-use lib.ListN.{length}
-use Rattle.signing_pieces.proofs.Limit.{place-fits}
-use Rattle.signing_pieces.proofs.CodeLaws.{number_is, place_stays, place_filled}
+use mathlib.Core.Path.{ap, ◌∙◌}
+use native.Mathlib.Omega.{arith}
+use borrow.Author.Tests.{not-false, eqb-true}
+use Rattle.std.proofs.lemmas.Result.{err_from_is_err_and}
+use Rattle.answer.proofs.Results.{refusal_number, err_says, ok_says, applies, applies-not}
+use Rattle.signing_pieces.proofs.CodeLaws.{place_bad, number_is, place_stays, place_filled}
 use Rattle.signing_pieces.proofs.SignState.signed.Goals as goal
 
-pub returns-then-number-ne0 : goal.returns-then-number-ne0
-returns-then-number-ne0 c =
+pub returns-in_err-refuse : goal.returns-in_err-refuse
+returns-in_err-refuse c =
     let a = c.args in
-    let joined = c.joined_number.ensures in
-    let says = number_is a.self a.signature.now c.refuse-number.ensures joined in
-    (says, place_stays a.self a.signature.now says c.if-number-ne0.true)
+    let told = applies _ _ _ c.refuse.ensures _ c.in_err-refuse.was in
+    let says = place_bad a.self a.signature.now told.0 in
+    let p = err_from_is_err_and c.from_residual.result c.from_residual.ensures.1 in
+    rw (p.1, p.2, told.1) (says, place_stays a.self a.signature.now says (λ z. omega arith))
 
-pub copy-requires : goal.copy-requires
-copy-requires c =
+pub returns-in_err-joined_tests : goal.returns-in_err-joined_tests
+returns-in_err-joined_tests c =
     let a = c.args in
-    let l : length a.signature.now ≡ 16 = place-fits _ _ _ c.refuse-number.ensures c.if-number-ne0.false in
-    le_of_eq (zero-add _ ∙ c.signature-code.type_inv.1.0.1 ∙ sym l)
+    let fits = applies-not _ _ _ c.refuse.ensures _ c.in_ok-refuse.was in
+    let says = number_is a.self a.signature.now fits (err_says _ _ c.joined_tests.ensures _ c.in_err-joined_tests.was) in
+    let p = err_from_is_err_and c.from_residual-in_err-joined_tests.result c.from_residual-in_err-joined_tests.ensures.1 in
+    rw (p.1, p.2) (says, place_stays a.self a.signature.now says (refusal_number _))
 
 pub returns : goal.returns
 returns c =
     let a = c.args in
-    let stored = c.signature-code in
-    let first = c.refuse-number.ensures in
-    let z = c.if-number-ne0.false in
-    let joined = c.joined_number.ensures in
-    let says = number_is a.self a.signature.now first joined in
-    let fits = place-fits _ _ _ first z in
-    let copied = c.copy.ensures in
-    (sym z ∙ says, place_filled a.self a.signature.now says z fits stored.type_inv.1.0.1 stored.ensures copied)
+    let fits = applies-not _ _ _ c.refuse.ensures _ c.in_ok-refuse.was in
+    let says = number_is a.self a.signature.now fits (ok_says _ _ c.joined_tests.ensures _ c.in_ok-joined_tests.was) in
+    (says, place_filled a.self a.signature.now says (c.copy_from_slice.ensures.after ∙ c.signature.ensures))

@@ -1,32 +1,32 @@
 -- Right because each line is tested in its order on the kept bytes.
 -- Assumes nothing.
-use mathlib.Core.Bool.{not}
-use mathlib.Core.Path.{ap}
-use mathlib.Core.Path.{◌≡◌, sym, ◌∙◌}
+use mathlib.Core.Path.{◌≡◌, refl, sym, ◌∙◌}
 use borrow.Author.Tests.{not-true, not-false}
 use native.Mathlib.Omega.{arith}
+use borrow.Author.Rules.{rules}
 use lib.ListN.{length}
+use Rattle.std.proofs.lemmas.Result.{err_from_is_err_and}
+use Rattle.answer.proofs.Results.{refusal_number, err_says, ok_says, applies, applies-not, test_says}
 use Rattle.signing_pieces.proofs.CodeLaws.{verify_stays, verify_goes-on, flag_missing, compared_by}
 use Rattle.signing_pieces.proofs.SignState.verified.Goals as goal
 
-pub returns-then-number-ne0 : goal.returns-then-number-ne0
-returns-then-number-ne0 c =
-    verify_stays c.args.self c.joined_number-number.ensures c.if-number-ne0.true
+pub returns-in_err-joined_tests : goal.returns-in_err-joined_tests
+returns-in_err-joined_tests c =
+    let no = verify_stays c.args.self (err_says _ _ c.joined_tests.ensures _ c.in_err-joined_tests.was) (refusal_number _) in
+    search (rules, no)
 
-pub returns-then-not-is_signed : goal.returns-then-not-is_signed
-returns-then-not-is_signed c =
+pub returns-in_err-refuse : goal.returns-in_err-refuse
+returns-in_err-refuse c =
     let s = c.args.self in
-    verify_goes-on s c.joined_number-number.ensures c.if-number-ne0.false
-    (flag_missing s (sym c.is_signed.ensures ∙ not-true _ (ap not c.if-not-is_signed.true)))
-
-pub bytes_16-requires : goal.bytes_16-requires
-bytes_16-requires c = let l = (let it : length c.args.self.header ≡ 64 = c.well_formed.0.1.1.1.0.1.0.1 in it) in omega arith
+    let told = applies _ _ _ c.refuse.ensures _ c.in_err-refuse.was in
+    let missing = flag_missing s (sym c.is_signed.ensures ∙ not-true _ told.0) in
+    let no = verify_goes-on s (ok_says _ _ c.joined_tests.ensures _ c.in_ok-joined_tests.was) refl missing in
+    let p = err_from_is_err_and c.from_residual-in_err-refuse.result c.from_residual-in_err-refuse.ensures.1 in
+    rw (p.1, p.2, told.1) no
 
 pub returns : goal.returns
 returns c =
     let s = c.args.self in
-    let set = sym c.is_signed.ensures ∙ not-false _ (ap not c.if-not-is_signed.false) in
-    let z = c.if-number-ne0.false in
-    let joined = c.joined_number-number.ensures in
-    let field = c.bytes_16.ensures in
-    verify_goes-on s joined z (compared_by s set field c.signature.ensures c.same_16-right.ensures c.refuse.ensures)
+    let yes = not-false _ (applies-not _ _ _ c.refuse.ensures _ c.in_ok-refuse.was) in
+    verify_goes-on s (ok_says _ _ c.joined_tests.ensures _ c.in_ok-joined_tests.was) refl
+    (compared_by s (sym c.is_signed.ensures ∙ yes) c.bytes_at.ensures c.signature.ensures c.same_16-right.ensures (test_says _ _ _ c.refuse-2.ensures))

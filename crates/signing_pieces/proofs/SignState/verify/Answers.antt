@@ -5,4 +5,4 @@ use Rattle.signing_pieces.specs.Running.{step_with}
 use Rattle.signing_pieces.proofs.SignState.verify.Goals as goal
 
 pub returns : goal.returns
-returns c = c.step.ensures ∙ ap₂ step_with c.ended-none.ensures c.verified-number.ensures
+returns c = c.step.ensures ∙ ap₂ step_with c.ended.ensures c.verified.ensures

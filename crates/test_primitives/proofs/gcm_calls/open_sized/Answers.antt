@@ -5,7 +5,7 @@ use Rattle.test_primitives.proofs.gcm_calls.open_sized.Goals as goal
 
 pub returns : goal.returns
 returns c =
-    let n = whole 12 c.args.nonce.now _ c.requires.1 c.bytes_12-n.ensures in
-    let t = whole 16 c.args.tag.now _ c.requires.3 c.bytes_16-t.ensures in
+    let n = whole 12 c.args.nonce.now _ c.requires.1 c.bytes_at-n.ensures in
+    let t = whole 16 c.args.tag.now _ c.requires.3 c.bytes_at-t.ensures in
     let e = rw (n, t) at c.«open».ensures in
     (e.right, e.bytes)

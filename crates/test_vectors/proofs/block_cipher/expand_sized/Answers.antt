@@ -1,6 +1,14 @@
 -- A key of either size has its number of rounds.
-use Rattle.aes.proofs.KeySizeLaws.{bounded}
+use Rattle.std.proofs.Common.{◌<◌, arith}
+use Rattle.aes.proofs.KeySizeLaws.{below_fifteen}
 use Rattle.test_vectors.proofs.block_cipher.expand_sized.Goals as goal
 
-pub show_round_keys-requires : goal.show_round_keys-requires
-show_round_keys-requires c = bounded c.args.key.now c.rounds.ensures c.requires
+pub offset_bounds-keys-r : goal.offset_bounds-keys-r
+offset_bounds-keys-r c =
+    let q : c.rounds-r-end.result < 15 = rw c.rounds-r-end.ensures (below_fifteen _ c.requires) in
+    omega arith
+
+pub bounds-keys-r : goal.bounds-keys-r
+bounds-keys-r c =
+    let q : c.rounds-r-end.result < 15 = rw c.rounds-r-end.ensures (below_fifteen _ c.requires) in
+    omega arith

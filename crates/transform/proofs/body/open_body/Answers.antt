@@ -3,6 +3,7 @@ use mathlib.Core.Bool.{not}
 use mathlib.Core.Path.{ap}
 use mathlib.Core.Path.{sym, ◌∙◌}
 use borrow.Author.Tests.{not-true, not-false}
+use Rattle.answer.proofs.Results.{refused-is}
 use Rattle.compound.specs.Reading.{envelope_of}
 use Rattle.transform_header.specs.Reading.{header_from}
 use Rattle.transform.proofs.Opening.{tag_wrong, restored, opened}
@@ -11,22 +12,22 @@ use Rattle.transform.proofs.body.open_body.Goals as goal
 pub returns-then-not-open : goal.returns-then-not-open
 returns-then-not-open c =
     let a = c.args in
-    tag_wrong a.cipher a.key.now (header_from a.h) (envelope_of a.e) a.text.now _ _ c.«open».ensures
+    tag_wrong a.keyed.cipher a.keyed.key.now (header_from a.h) (envelope_of a.e) a.text.now _ _ c.«open».ensures
     (not-true _ (ap not c.if-not-open.true))
 
-pub returns-then-refused : goal.returns-then-refused
-returns-then-refused c =
+pub returns-then-is_err : goal.returns-then-is_err
+returns-then-is_err c =
     let a = c.args in
     let h = header_from a.h in
-    restored a.cipher a.key.now h (envelope_of a.e) a.text.now _ _ c.«open».ensures
+    restored a.keyed.cipher a.keyed.key.now h (envelope_of a.e) a.text.now _ _ c.«open».ensures
     (not-false _ (ap not c.if-not-open.false))
-    _ c.size_then_walk-out.ensures (sym c.refused.ensures ∙ c.if-refused.true) _
+    _ c.size_then_walk-out.ensures (refused-is _ ∙ sym c.is_err.ensures.value ∙ c.if-is_err.true) _
     (c.apply.ensures h.authenticated_data)
 
-pub returns-else-refused : goal.returns-else-refused
-returns-else-refused c =
+pub returns-else-is_err : goal.returns-else-is_err
+returns-else-is_err c =
     let a = c.args in
     let h = header_from a.h in
-    opened a.cipher a.key.now h (envelope_of a.e) a.text.now _ _ c.«open».ensures
+    opened a.keyed.cipher a.keyed.key.now h (envelope_of a.e) a.text.now _ _ c.«open».ensures
     (not-false _ (ap not c.if-not-open.false)) _
-    c.size_then_walk-out.ensures (sym c.refused.ensures ∙ c.if-refused.false)
+    c.size_then_walk-out.ensures (refused-is _ ∙ sym c.is_err.ensures.value ∙ c.if-is_err.false)

@@ -7,4 +7,4 @@ use Rattle.transform.proofs.body.open_message.Goals as goal
 pub returns : goal.returns
 returns c =
     let a = c.args in
-    message-opened a.cipher a.key.now (envelope_of a.e) a.m.now (header_from a.h) _ _ c.requires.1.0 c.open_body.ensures
+    message-opened a.keyed.cipher a.keyed.key.now (envelope_of a.e) a.m.now (header_from a.h) _ _ c.requires.0 c.open_body.ensures

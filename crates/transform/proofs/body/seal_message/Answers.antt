@@ -6,6 +6,6 @@ use Rattle.transform.proofs.body.seal_message.Goals as goal
 pub returns : goal.returns
 returns c =
     let a = c.args in
-    message-sealed a.cipher a.key.now a.counter a.id a.m.now c.requires.1 _ _ _ _ _ c.nonce-nonce.ensures
+    message-sealed a.keyed.cipher a.keyed.key.now a.counter a.id a.m.now c.requires _ _ _ _ _ c.nonce-nonce.ensures
     c.authenticated_bytes-aad.ensures
     c.seal-tag.ensures c.write_header.ensures

@@ -1,7 +1,0 @@
--- Right because the part from `at` on fills the array of zeros whole (array_copied).
--- Assumes nothing.
-use Rattle.octets.proofs.Paste.{array_copied}
-use Rattle.arrays.proofs.bytes_11.Goals as goal
-
-pub returns : goal.returns
-returns c = array_copied 11 c.args.b.now c.args.at _ c.requires c.copy.ensures

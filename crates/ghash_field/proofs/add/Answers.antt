@@ -1,9 +1,0 @@
--- Right because exclusive or goes word by word.
-use Rattle.std.proofs.Common.{rules}
-use Rattle.ghash_field.proofs.WordLaws.{join-xor}
-use Rattle.ghash_field.proofs.add.Goals as goal
-
-pub returns : goal.returns
-returns c =
-    let args = c.args in
-    join-xor args.a.hi args.a.lo args.b.hi args.b.lo (search rules) (search rules)

@@ -1,8 +1,0 @@
--- Right because it is the definition, sum by sum.
--- Assumes nothing.
-use Rattle.sha_2.specs.Sha2.{sums}
-use Rattle.sha256_compression.proofs.sums.Goals as goal
-
-pub returns : goal.returns
-unfolding sums
-returns c = cc

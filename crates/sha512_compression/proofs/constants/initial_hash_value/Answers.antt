@@ -1,9 +1,0 @@
--- Right because the two tables are the same, entry by entry.
--- Assumes nothing.
-use Rattle.std.proofs.Common.{refl}
-use Rattle.sha_2.specs.Sha512.{initial512}
-use Rattle.sha512_compression.proofs.constants.initial_hash_value.Goals as goal
-
-pub returns : goal.returns
-unfolding initial512
-returns c = refl

@@ -1,8 +1,0 @@
--- Right because two rounds and two more are four.
--- Assumes nothing.
-use Rattle.sha_2.specs.Sha512.{sha512}
-use Rattle.sha_2.proofs.Rounds.{goes-more}
-use Rattle.sha512_compression.proofs.rounds.four_rounds.Goals as goal
-
-pub returns : goal.returns
-returns c = (c.two_rounds.ensures.0, goes-more sha512 c.two_rounds-half.ensures.1 c.two_rounds.ensures.1)
