@@ -1,7 +1,7 @@
 // What a record of each kind does in the lab (RULES 16).
 #![tactic(auto)]
 
-ghost use Rattle.std.specs.Prelude.{◌≡◌, ◌≤◌, length};
+ghost use Rattle.std.specs.Prelude.{◌≡◌, ◌<◌, ◌≤◌, length};
 ghost use Rattle.protocol.specs.Answer.{answer_number};
 ghost use Rattle.protocol.specs.Preauth.{negotiate_message};
 ghost use Rattle.protocol.specs.Calls.{folding, opening, adding, only_chain, only_table, message_and_table, answer, left};

@@ -122,7 +122,7 @@ fn shifted(n: u64, b: u8) -> u64
 }
 
 // The first `len` bytes; behind them are zeros.
-#[derive(Drop)]
+#[derive(Clone, Copy)]
 pub struct Word<const N: usize> {
     pub bytes: [u8; N],
     pub len: usize,
