@@ -6,7 +6,7 @@ ghost use Rattle.program_text.specs.Puts.{Put, roomy, PutLine, gaps_fit, PutGaps
 use crate::parts::front;
 use runs::copy;
 
-pub fn put(text: &mut [u8], at: usize, words: &[u8]) -> usize
+fn put(text: &mut [u8], at: usize, words: &[u8]) -> usize
     requires { at + length words.now ≤ length text.old }
     ensures { Put words.now text.old at result text.new }
 {
