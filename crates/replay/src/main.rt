@@ -13,7 +13,7 @@ use std::io::{IsTerminal, Print, Read};
 use trace_reader::read_file_head;
 use trace_window::{Cursor, WINDOW};
 
-fn replay_bytes<R: Read>(program: Program<'_>, file: &mut R, name: &[u8]) {
+fn replay_bytes<'a, R: Read>(program: Program<'a>, file: &mut R, name: &'a [u8]) {
     // the window is read where it stays, and is too large to be moved
     let mut replay = Replay {
         program,
