@@ -52,7 +52,8 @@ impl Model for Cipher {
 }
 
 impl Cipher {
-    // The cipher under a key of either size.
+    // The cipher under a key of either size. Hints to inline keep the table from being copied once more at each return.
+    #[inline(always)]
     pub fn new(key: &[u8]) -> Cipher
         requires { is_key_length (length key.now) ≡ true }
         ensures { result ≡ expanded_key key.now }
@@ -61,6 +62,7 @@ impl Cipher {
     }
 
     // The cipher of some rounds, under round keys however they came.
+    #[inline(always)]
     pub fn of_round_keys(keys: [[u8; 16]; 15], rounds: usize) -> Cipher
         requires { (0 < rounds) × (rounds < 15) }
         ensures { result ≡ take (rounds + 1) keys }

@@ -1,7 +1,7 @@
 // The key expansion (FIPS 197, 5.2) of keys of four and of eight words, by round keys of four words: a key is its first one or two.
 #![tactic(auto)]
 
-ghost use Rattle.std.specs.Prelude.{true, ◌≡◌, [], ◌∷◌, ◌+◌, ◌*◌, ◌-◌, ◌<◌, ◌≤◌, length, take, drop, slice_index_or};
+ghost use Rattle.std.specs.Prelude.{true, ◌≡◌, [], ◌∷◌, ◌+◌, ◌*◌, ◌-◌, ◌/◌, ◌<◌, ◌≤◌, length, take, drop, slice_index_or};
 ghost use Rattle.rijndael.specs.KeyExpansion.{temp, xpower, word_of};
 ghost use Rattle.rijndael.specs.BlockCipher.{expanded_key};
 ghost use Rattle.aes_key_expansion.specs.NextKey.{next_key, IsOwn};
@@ -80,16 +80,28 @@ fn own_keys(key: &[u8]) -> [[u8; 16]; 15]
     keys
 }
 
-// KEYEXPANSION: the round keys, and zeros behind the last.
-pub fn expand(key: &[u8]) -> [[u8; 16]; 15]
-    requires { is_key_length (length key.now) ≡ true }
+// The same loop for keys of either size, where the key is its first `own` round keys.
+#[inline(always)]
+fn expand_by(key: &[u8], own: usize) -> [[u8; 16]; 15]
+    requires size { is_key_length (length key.now) ≡ true }
+    requires own { own ≡ length key.now / 16 }
     ensures { result ≡ fifteen (expanded_key key.now) }
 {
     let sbox = Sbox::new();
-    let own = key.len() / 16;
     let mut keys = own_keys(key);
     for r in own..4 * own + 7 {
         keys[r] = round_key(&sbox, &keys, own, r);
     }
     keys
+}
+
+// KEYEXPANSION: the round keys, and zeros behind the last. Each size names its `own`, so that the compiler knows what is divided by.
+pub fn expand(key: &[u8]) -> [[u8; 16]; 15]
+    requires { is_key_length (length key.now) ≡ true }
+    ensures { result ≡ fifteen (expanded_key key.now) }
+{
+    if key.len() == 32 {
+        return expand_by(key, 2);
+    }
+    expand_by(key, 1)
 }

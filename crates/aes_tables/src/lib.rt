@@ -36,6 +36,7 @@ pub struct Sbox {
 }
 
 impl Sbox {
+    #[inline(always)]
     pub fn new() -> Sbox {
         Sbox {
             bytes: constants::SBOX,
@@ -57,6 +58,7 @@ pub struct SubMix {
 }
 
 impl SubMix {
+    #[inline(always)]
     pub fn new() -> SubMix {
         SubMix {
             words: constants::SUB_MIX,

@@ -41,7 +41,7 @@ pub fn mark_to(folded: Result<bool, Refusal>, mark: u32) -> u32
 }
 
 // A line of the table of numbers: where it applies, the call is refused by it, and a `?` leaves the later lines untested.
-pub fn refuse(when: bool, why: Refusal) -> Result<(), Refusal>
+pub fn refuse<E: Drop>(when: bool, why: E) -> Result<(), E>
     ensures { result ≡ cond when (Err why) (Ok tt) }
 {
     if when { Err(why) } else { Ok(()) }

@@ -1,2 +1,3 @@
 pub mod Field
 pub mod Elements
+pub mod Tables

@@ -35,7 +35,7 @@ impl BitXor for Element {
 
 // The hash subkey H (6.4), ready for multiplication: its products with the sixteen four-bit values. Contracts see H, which is the product
 // with 8, since the first bit of an element stands for 1.
-#[derive(Drop)]
+#[derive(Clone, Copy)]
 pub struct HashKey {
     pub products: [Element; 16],
 }
@@ -43,12 +43,18 @@ pub struct HashKey {
 impl Model for HashKey {
     ghost use Rattle.std.specs.Prelude.{ℕ};
     ghost use Rattle.ghash_field.specs.Elements.{subkey, Products};
+    ghost use Rattle.ghash_field.specs.Tables.{Whole, table, table_is};
 
     ghost Value = { ℕ };
 
     ghost view = { λ k. subkey k.products };
 
-    ghost invariant = { λ k. Products k.products (subkey k.products) };
+    ghost invariant = { λ k. Products k.products (subkey k.products) × Whole k.products };
+
+    // H determines the table, so that a key may be copied.
+    ghost inverse = { λ h. record { products = table h } };
+
+    ghost inverse_ok = { λ k h i. record { products = table_is k.products h.0 h.1 i } };
 }
 
 impl HashKey {

@@ -1,7 +1,7 @@
 // What a record of each kind does in the lab (RULES 16).
 #![tactic(auto)]
 
-ghost use Rattle.std.specs.Prelude.{◌≡◌, ◌≤◌, length};
+ghost use Rattle.std.specs.Prelude.{◌≡◌, ◌<◌, ◌≤◌, length};
 ghost use Rattle.protocol.specs.Answer.{answer_number};
 ghost use Rattle.protocol.specs.Preauth.{negotiate_message};
 ghost use Rattle.protocol.specs.Calls.{folding, opening, adding, only_chain, only_table, message_and_table, answer, left};
@@ -47,7 +47,8 @@ fn opened(lab: &Lab, from_server: bool, message: &mut [u8]) -> u32
 // Kind 3: a plain session from the session chain, of an 8-byte id, the high byte first, and a 16-byte key. Then the session chain is the
 // connection's.
 fn added(lab: &mut Lab, payload: &[u8]) -> u32
-    ensures { 24 ≤ length payload.now → (result ≡ answer_number (answer suite (adding (lab_session payload.now (state_of lab.old))) (only_table (state_of lab.old).table)))
+    ensures stays { length payload.now < 24 → lab.new ≡ lab.old }
+    ensures joins { 24 ≤ length payload.now → (result ≡ answer_number (answer suite (adding (lab_session payload.now (state_of lab.old))) (only_table (state_of lab.old).table)))
         × (state_of lab.new ≡ joined (left suite (adding (lab_session payload.now (state_of lab.old))) (only_table (state_of lab.old).table)).table (state_of lab.old)) }
 {
     if payload.len() < 24 {
@@ -66,9 +67,11 @@ fn added(lab: &mut Lab, payload: &[u8]) -> u32
     number(added)
 }
 
-// A record of a kind and with a payload of a length that the reader reads: its answer number, which a line of the replay has.
+// A record of a kind and with a payload of a length that the reader reads: its answer number, which a line of the replay has. A shorter one
+// of kind 3, which no reader hands on, leaves the lab as it was.
 pub fn step(lab: &mut Lab, kind: u8, from_server: bool, payload: &mut [u8]) -> u32
-    ensures { (3 ≤ kind → 24 ≤ length payload.old) → Steps kind from_server payload.old payload.new (state_of lab.old) result (state_of lab.new) }
+    ensures stays { 3 ≤ kind → length payload.old < 24 → lab.new ≡ lab.old }
+    ensures steps { (3 ≤ kind → 24 ≤ length payload.old) → Steps kind from_server payload.old payload.new (state_of lab.old) result (state_of lab.new) }
 {
     // not a match: of its last arm a proof knows only that no number was named
     if kind == 0 {

@@ -5,6 +5,6 @@ mod lines;
 mod parts;
 mod words;
 
-pub use lines::Lines;
+pub use lines::{Lines, gap_lines, has_room, long_line, stop_line, two_numbers};
 pub use parts::{behind, front};
 pub use words::{asks_help, asks_version, beside};

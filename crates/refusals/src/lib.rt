@@ -45,7 +45,7 @@ pub fn message_tests(c: Connection, m: &[u8]) -> Result<(), Refusal>
 }
 
 // 4, 5, 29: of the header that is opened.
-fn header_tests(c: Connection, h: TransformHeader) -> Result<(), Refusal>
+pub fn header_tests(c: Connection, h: TransformHeader) -> Result<(), Refusal>
     ensures { number_in result ≡ first_of (header_tests (connection_of c) (header_from h)) }
 {
     refuse(!h.begins, Refusal::NotTransform)?;

@@ -13,28 +13,31 @@ use std::io::{IsTerminal, Print, Read};
 use trace_reader::read_file_head;
 use trace_window::{Cursor, WINDOW};
 
-fn replay_bytes<R: Read>(program: Program<'_>, file: &mut R, name: &[u8]) {
-    let mut window = [0u8; WINDOW];
-    let g = match gather(file, &mut window, 4) {
+fn replay_bytes<'a, R: Read>(program: Program<'a>, file: &mut R, name: &'a [u8]) {
+    // the window is read where it stays, and is too large to be moved
+    let mut replay = Replay {
+        program,
+        name,
+        edition: 0,
+        lab: Lab::new(0, 0),
+        cursor: Cursor::first(0, false),
+        window: [0u8; WINDOW],
+        lines: Lines::new(),
+    };
+    let g = match gather(file, &mut replay.window, 4) {
         Ok(g) => g,
         Err(error) => {
             program.complain(name, error);
             return;
         }
     };
-    let Ok(head) = read_file_head(front(&window, g.have)) else {
+    let Ok(head) = read_file_head(front(&replay.window, g.have)) else {
         program.answer(b"stop 0\n");
         return;
     };
-    let mut replay = Replay {
-        program,
-        name,
-        edition: head.edition,
-        lab: Lab::new(head.dialect, u16::from(head.cipher)),
-        cursor: Cursor::first(g.have, g.ended),
-        window,
-        lines: Lines::new(),
-    };
+    replay.edition = head.edition;
+    replay.lab = Lab::new(head.dialect, u16::from(head.cipher));
+    replay.cursor = Cursor::first(g.have, g.ended);
     let _ = replay.run(file);
     let _ = replay.flush();
 }

@@ -1,9 +1,9 @@
 // A replay on its way: what it reads and writes until the next record has its turn, and what that turn does in the lab.
-ghost use Rattle.std.specs.Prelude.{◌≡◌, true, ◌||◌, is_err, OnOk};
-ghost use Rattle.program_text.specs.Lines.{long_line};
+ghost use Rattle.std.specs.Prelude.{◌≡◌, true, is_err, IsErr, OnOk};
+ghost use Rattle.program_text.specs.Lines.{long_line, stop_line};
 ghost use Rattle.program_text.specs.Puts.{PutLine};
 ghost use Rattle.trace_format.specs.Format.{edition_of};
-ghost use Rattle.trace_window.specs.Window.{next_of, behind};
+ghost use Rattle.trace_window.specs.Window.{next_of, begun, behind};
 ghost use Rattle.lab_state.specs.Reading.{state_of};
 ghost use Rattle.lab.specs.Reading.{outcome_of};
 ghost use Rattle.replay.specs.Turning.{is_turn, TurnsIn, line_bytes, goes_on, TurnsTo};
@@ -60,8 +60,9 @@ fn put_line(lines: &mut Lines<4096>, line: Line, c: Cursor)
 impl Replay<'_> {
     // The lines that wait are written.
     pub fn flush(&mut self) -> Result<(), Over>
-        ensures cursor { self.new.cursor ≡ self.old.cursor }
         ensures none_left { self.new.lines.used ≡ 0 }
+        ensures text { self.new.lines.text ≡ self.old.lines.text }
+        ensures rest { self.new ≡ record self.old { lines = self.new.lines } }
     {
         let all = self.program.answer(self.lines.put_so_far());
         self.lines.used = 0;
@@ -70,7 +71,8 @@ impl Replay<'_> {
 
     // They are written where the next line might not fit behind them.
     fn make_room(&mut self) -> Result<(), Over>
-        ensures { self.new.cursor ≡ self.old.cursor }
+        ensures text { self.new.lines.text ≡ self.old.lines.text }
+        ensures rest { self.new ≡ record self.old { lines = self.new.lines } }
     {
         if self.lines.has_room() {
             return Ok(());
@@ -80,7 +82,9 @@ impl Replay<'_> {
 
     // Reads on, behind what the window has from the record at hand on. The lines so far are written before.
     fn read_on<R: Read>(&mut self, file: &mut R) -> Result<(), Over>
-        ensures { self.new.lines.used ≡ 0 }
+        ensures none_left { self.new.lines.used ≡ 0 }
+        ensures text { self.new.lines.text ≡ self.old.lines.text }
+        ensures rest { self.new ≡ record self.old { cursor = self.new.cursor; window = self.new.window; lines = self.new.lines } }
     {
         self.flush()?;
         let c = self.cursor;
@@ -97,31 +101,48 @@ impl Replay<'_> {
         }
     }
 
+    // A long record begins, with a payload of n bytes.
+    fn begin_long(&mut self, n: usize)
+        ensures cursor { self.new.cursor ≡ begun n self.old.cursor }
+        ensures rest { self.new ≡ record self.old { cursor = self.new.cursor } }
+    {
+        self.cursor = self.cursor.begun(n);
+    }
+
     // A long record that was passed over: its line, and the record behind it.
     fn pass(&mut self)
         ensures put_line { PutLine (long_line self.old.cursor.index) self.old.lines.text self.old.lines.used self.new.lines.used self.new.lines.text }
         ensures cursor { self.new.cursor ≡ behind self.old.cursor.size self.old.cursor.at self.old.cursor }
+        ensures rest { self.new ≡ record self.old { cursor = self.new.cursor; lines = self.new.lines } }
     {
         self.lines.long_line(self.cursor.index);
         self.cursor = self.cursor.passed_over();
     }
 
+    // A long record that is cut off: the replay stops at its place.
+    fn cut_off(&mut self) -> Result<(), Over>
+        ensures put_line { PutLine (stop_line self.old.cursor.place) self.old.lines.text self.old.lines.used self.new.lines.used self.new.lines.text }
+        ensures over { IsErr result }
+        ensures rest { self.new ≡ record self.old { lines = self.new.lines } }
+    {
+        self.lines.stop_line(self.cursor.place);
+        Err(Over)
+    }
+
     // Goes on until the record at hand has its turn, or the replay is over. Nothing says that a file ends: the steps are counted, up to a
     // number that no run uses up.
     fn ready<R: Read>(&mut self, file: &mut R) -> Result<(), Over>
-        ensures { OnOk result (is_turn (next_of (edition_of self.new.edition) self.new.cursor self.new.window) ≡ true) }
+        ensures turn { OnOk result (is_turn (next_of (edition_of self.old.edition) self.new.cursor self.new.window) ≡ true) }
+        ensures rest { self.new ≡ record self.old { cursor = self.new.cursor; window = self.new.window; lines = self.new.lines } }
     {
         for _ in 0..u64::MAX {
             self.make_room()?;
             match self.cursor.next(self.edition, &self.window) {
                 Step::Turn => return Ok(()),
                 Step::Read => self.read_on(file)?,
-                Step::Begin(payload) => self.cursor = self.cursor.begun(payload),
+                Step::Begin(payload) => self.begin_long(payload),
                 Step::Passed => self.pass(),
-                Step::CutOff => {
-                    self.lines.stop_line(self.cursor.place);
-                    return Err(Over);
-                }
+                Step::CutOff => return self.cut_off(),
             }
         }
         Err(Over)
@@ -129,7 +150,8 @@ impl Replay<'_> {
 
     // The turn of the record at hand: what it does in the lab, and its line.
     pub fn turn(&mut self) -> Result<(), Over>
-        ensures { TurnsTo (edition_of self.old.edition) (state_of self.old.lab) self.old.cursor self.old.window self.old.lines.text self.old.lines.used (state_of self.new.lab) self.new.cursor self.new.window self.new.lines.text self.new.lines.used (is_err result) }
+        ensures rest { self.new ≡ record self.old { lab = self.new.lab; cursor = self.new.cursor; window = self.new.window; lines = self.new.lines } }
+        ensures turns { TurnsTo (edition_of self.old.edition) (state_of self.old.lab) self.old.cursor self.old.window self.old.lines.text self.old.lines.used (state_of self.new.lab) self.new.cursor self.new.window self.new.lines.text self.new.lines.used (is_err result) }
     {
         let c = self.cursor;
         let turn = in_window(self.edition, self.lab, &mut self.window, c);

@@ -2,14 +2,14 @@
 // is to decide about it.
 #![tactic(auto)]
 
-ghost use Rattle.std.specs.Prelude.{◌≡◌, ◌<◌, true, false, length, position, IfSome};
+ghost use Rattle.std.specs.Prelude.{◌≡◌, ℕ, ◌<◌, true, false, length, position, IfSome};
 ghost use Rattle.protocol.specs.Calls.{adding, removing, sealing, opening, only_table, message_and_table};
 ghost use Rattle.protocol.specs.Contract.{Makes, Returns};
 ghost use Rattle.answer.specs.Reading.{number_in, answer_of};
 ghost use Rattle.connection.specs.Reading.{connection_of};
 ghost use Rattle.session_record.specs.Reading.{is_wanted, stepped};
 ghost use Rattle.session_record.specs.Adds.{adding_of};
-ghost use Rattle.session_table.specs.Place.{place_in, record_at, put_at};
+ghost use Rattle.session_table.specs.Place.{first, place_in, record_at, put_at};
 ghost use Rattle.session_table.specs.Reading.{table_of};
 ghost use Rattle.session_table.specs.Exactly.{Exactly};
 
@@ -20,37 +20,56 @@ use session_record::{Adding, Session};
 // The place of the session of the id.
 pub fn find(table: &[Session], id: u64) -> Option<usize>
     ensures first { result ≡ position (is_wanted true id) table.now }
+    ensures place { place_in table.now result ≡ first (is_wanted true id) table.now }
     ensures inside { IfSome result (λ i. i < length table.now) }
 {
     table.iter().position(|s| s.is_session(id))
 }
 
 // The first free place.
-fn find_free(table: &[Session]) -> Option<usize>
-    ensures first { result ≡ position (is_wanted false 0) table.now }
+pub fn find_free(table: &[Session]) -> Option<usize>
+    ensures first { (id : ℕ) → result ≡ position (is_wanted false id) table.now }
+    ensures place { (id : ℕ) → place_in table.now result ≡ first (is_wanted false id) table.now }
     ensures inside { IfSome result (λ i. i < length table.now) }
 {
     table.iter().position(|s| s.is_free())
 }
 
+// The record at a place, or a free one past the end.
+pub fn at(table: &[Session], i: usize) -> Session
+    ensures { result ≡ record_at i table.now }
+{
+    if i < table.len() {
+        return table[i];
+    }
+    Session::vacant()
+}
+
+// A record to a place; past the end nothing changes.
+pub fn put_at(table: &mut [Session], i: usize, s: Session)
+    ensures { table.new ≡ put_at i s table.old }
+{
+    if i < table.len() {
+        table[i] = s;
+    }
+}
+
 // The record at a place that was found, or a free one where none was.
 fn record(table: &[Session], place: Option<usize>) -> Session
-    requires { IfSome place (λ i. i < length table.now) }
     ensures { result ≡ record_at (place_in table.now place) table.now }
 {
     match place {
-        Some(i) => table[i],
+        Some(i) => at(table, i),
         None => Session::vacant(),
     }
 }
 
 // A record to a place that was found.
 fn put(table: &mut [Session], place: Option<usize>, s: Session)
-    requires { IfSome place (λ i. i < length table.old) }
     ensures { table.new ≡ put_at (place_in table.old place) s table.old }
 {
     if let Some(i) = place {
-        table[i] = s;
+        put_at(table, i, s);
     }
 }
 
@@ -58,9 +77,8 @@ fn put(table: &mut [Session], place: Option<usize>, s: Session)
 pub fn step(table: &mut [Session], i: usize, by: u64)
     ensures { table.new ≡ put_at i (stepped by (record_at i table.old)) table.old }
 {
-    if i < table.len() {
-        table[i] = table[i].stepped(by);
-    }
+    let s = at(table, i).stepped(by);
+    put_at(table, i, s);
 }
 
 // Adds a session of a new id in the first free record: 40, 18 to 22. Refused, the table is as it was.

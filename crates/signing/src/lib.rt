@@ -1,7 +1,7 @@
 // Signing a message in clear, and verifying it, under one given key (RULES 15; MS-SMB2 3.1.4.1 and 3.1.5.1).
 #![tactic(auto)]
 
-ghost use Rattle.std.specs.Prelude.{◌≡◌, ◌≤◌, length};
+ghost use Rattle.std.specs.Prelude.{◌≡◌, ◌<◌, ◌≤◌, false, length};
 ghost use Rattle.protocol.specs.Answer.{first_of};
 ghost use Rattle.protocol.specs.Signing.{is_signed, with_signed_flag, signature_under};
 ghost use Rattle.protocol.specs.Calls.{signing_under, verifying_under, only_message, sign_tests};
@@ -25,19 +25,25 @@ fn sign_tests(key: &[u8], m: &[u8]) -> Result<(), Refusal>
     refuse(!protocol_id::begins(m, 0, 0xFE), Refusal::NotHeader)
 }
 
-// SMB2_FLAGS_SIGNED is set.
+// SMB2_FLAGS_SIGNED is set; not where there is no whole header.
 pub fn is_signed(m: &[u8]) -> bool
-    requires { 64 ≤ length m.now }
-    ensures { result ≡ is_signed m.now }
+    ensures header { 64 ≤ length m.now → result ≡ is_signed m.now }
+    ensures short { length m.now < 64 → result ≡ false }
 {
+    if m.len() < 64 {
+        return false;
+    }
     number_at::<4>(m, 16) / 8 % 2 == 1
 }
 
-// Sets the flag; the others stay.
+// Sets the flag; the others stay, and so does what is too short for a header.
 pub fn set_signed(m: &mut [u8])
-    requires { 64 ≤ length m.old }
-    ensures { m.new ≡ with_signed_flag m.old }
+    ensures header { 64 ≤ length m.old → m.new ≡ with_signed_flag m.old }
+    ensures short { length m.old < 64 → m.new ≡ m.old }
 {
+    if m.len() < 64 {
+        return;
+    }
     let flags = to_bytes::<4>(number_at::<4>(m, 16) | 8);
     copy(m, 16, &flags);
 }

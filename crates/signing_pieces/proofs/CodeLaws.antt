@@ -7,7 +7,7 @@ use Prim.Native.Nat.{ℕ, ◌+◌, ◌-◌, ◌≤◌, ◌<◌}
 use native.Mathlib.Omega.{arith}
 use borrow.Author.Tests.{eq-eqb, ne_eqb, lt-ltb, le-ltb, leb-true, not-true, not-false}
 use lib.Dec.{eqb, ltb, leb}
-use lib.ListN.{length, take, drop, replicate}
+use lib.ListN.{length, take, drop}
 use lib.Seq.{paste}
 use Rattle.octets.specs.Numbers.{bytes_at}
 use Rattle.octets.specs.Same.{same_bytes}
@@ -16,7 +16,6 @@ use Rattle.aes.specs.BlockCipher.{block_cipher, expanded_key}
 use Rattle.cmac.specs.declared.Mac.{Mac}
 use Rattle.cmac.specs.Running.{nothing_taken, updated}
 use Rattle.protocol.specs.Bytes.{Bytes}
-use Rattle.protocol.specs.Ciphers.{aes}
 use Rattle.protocol.specs.Connection.{longest_message}
 use Rattle.protocol.specs.InnerHeader.{is_inner_header}
 use Rattle.protocol.specs.Signing.{is_signed, signature_field}

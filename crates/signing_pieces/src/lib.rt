@@ -78,6 +78,7 @@ pub fn begin(key: &[u8]) -> SignStep
 
 impl SignState {
     // The cipher under the message's key.
+    #[inline(always)]
     fn cipher(self) -> Cipher
         ensures { result ≡ expanded_key self.key }
     {

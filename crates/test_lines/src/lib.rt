@@ -1,7 +1,7 @@
 // Lines of words, which are byte strings in hexadecimal with one space between two. `-` is the empty string.
 #![tactic(auto)]
 
-ghost use Rattle.std.specs.Prelude.{◌≡◌, ◌+◌, ◌*◌, ◌%◌, ◌^◌, ◌<◌, ◌≤◌, length, take, drop, IfSome};
+ghost use Rattle.std.specs.Prelude.{◌≡◌, ◌+◌, ◌*◌, ◌%◌, ◌^◌, ◌<◌, ◌≤◌, length, take, drop, replicate, IfSome};
 ghost use Rattle.std.specs.Option.{unwrap_or};
 ghost use Rattle.octets.specs.Numbers.{big_endian};
 ghost use Rattle.test_lines.specs.Lines as lines;
@@ -79,7 +79,8 @@ pub struct Words<'a> {
 impl Words<'_> {
     // Reads the next word into out, as far as it has room: how many bytes.
     pub fn read(&mut self, out: &mut [u8]) -> usize
-        ensures { lines.Reads self.old.line.now self.old.at out.old out.new result self.new.at }
+        ensures reads { lines.Reads self.old.line.now self.old.at out.old out.new result self.new.at }
+        ensures line { self.new.line.now ≡ self.old.line.now }
     {
         let n = bytes_at(self.line, self.at, out);
         self.at = after_space(self.line, self.at);
@@ -90,6 +91,7 @@ impl Words<'_> {
     pub fn number(&mut self) -> u64
         ensures value { result ≡ big_endian (take 8 (lines.bytes_of (drop self.old.at self.old.line.now))) % 2 ^ 64 }
         ensures next { self.new.at ≡ lines.next_word self.old.line.now self.old.at }
+        ensures line { self.new.line.now ≡ self.old.line.now }
     {
         let mut b = [0u8; 8];
         let len = self.read(&mut b);
@@ -102,8 +104,9 @@ impl Words<'_> {
 
     // The next word, of at most N bytes.
     pub fn word<const N: usize>(&mut self) -> Word<N>
+        ensures reads { lines.Reads self.old.line.now self.old.at (replicate N 0) result.bytes result.len self.new.at }
         ensures inside { result.len ≤ N }
-        ensures next { self.new.at ≡ lines.next_word self.old.line.now self.old.at }
+        ensures line { self.new.line.now ≡ self.old.line.now }
     {
         let mut bytes = [0; N];
         let len = self.read(&mut bytes);
@@ -119,7 +122,7 @@ fn shifted(n: u64, b: u8) -> u64
 }
 
 // The first `len` bytes; behind them are zeros.
-#[derive(Drop)]
+#[derive(Clone, Copy)]
 pub struct Word<const N: usize> {
     pub bytes: [u8; N],
     pub len: usize,

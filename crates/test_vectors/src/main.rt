@@ -8,12 +8,13 @@ mod hashes;
 mod modes;
 mod smb;
 
-use std::io::{self, Read};
+use io::{large_buffer, read_full};
+use std::io::Result;
 use std::str;
 use test_lines::Words;
 
 // The operation that a line names, on the words behind its name. A line of no known name has no result.
-fn run(rt: &HostRuntime, name: &str, words: &mut Words<'_>) -> io::Result<()> {
+fn run(rt: &HostRuntime, name: &str, words: &mut Words<'_>) -> Result<()> {
     match name {
         "sha256" => hashes::sha256(rt, words),
         "sha512" => hashes::sha512(rt, words),
@@ -43,7 +44,7 @@ fn run(rt: &HostRuntime, name: &str, words: &mut Words<'_>) -> io::Result<()> {
 }
 
 // A name, a space, and more.
-fn run_line(rt: &HostRuntime, line: &[u8]) -> io::Result<()> {
+fn run_line(rt: &HostRuntime, line: &[u8]) -> Result<()> {
     let Some(space) = line.iter().position(|b| *b == b' ') else {
         return Ok(());
     };
@@ -54,13 +55,11 @@ fn run_line(rt: &HostRuntime, line: &[u8]) -> io::Result<()> {
     }
 }
 
-fn main(rt: HostRuntime) -> io::Result<()> {
-    let mut input = Vec::new(rt.alloc());
-    let read = rt.stdin().take(65536).read_to_end(&mut input);
-    for line in input.split_inclusive(|b| *b == b'\n') {
-        run_line(&rt, line)?;
+// What cannot be read or written is missing from the output, which is compared.
+fn main(rt: HostRuntime) {
+    let mut input = large_buffer();
+    let n = read_full(0, &mut input);
+    for line in input[..n].split_inclusive(|b| *b == b'\n') {
+        let _ = run_line(&rt, line);
     }
-    // said after what was read has been run
-    read?;
-    Ok(())
 }

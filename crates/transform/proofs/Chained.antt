@@ -10,7 +10,7 @@ use lib.ListN.{length}
 use Rattle.protocol.specs.Bytes.{Bytes}
 use Rattle.protocol.specs.Answer.{first_else, first_of}
 use Rattle.protocol.specs.Connection.{Connection}
-use Rattle.protocol.specs.TransformHeader.{TransformHeader, header_of}
+use Rattle.protocol.specs.TransformHeader.{TransformHeader}
 use Rattle.protocol.specs.Refusals.{other_session}
 use Rattle.protocol.specs.Calls.{key_tests, message_tests, header_tests}
 use Rattle.transform_header.specs.Reading.{header_in}

@@ -4,13 +4,13 @@ use mathlib.Core.Path.{◌≡◌, refl, sym, ap, ◌∙◌}
 use mathlib.Core.Bool.{Bool, true, false, cond, not}
 use mathlib.Core.List.{List, [], ◌∷◌, ◌++◌}
 use mathlib.Core.Option.{Option, none, some, get_or}
-use Rattle.std.specs.Prelude.{Result, Ok, Err}
+use Rattle.std.specs.Prelude.{Result, Ok, Err, IfOk}
 use Rattle.std.proofs.lemmas.Result.{IfOk-at_ok}
 use Prim.Native.Nat.{ℕ, ◌-◌}
 use native.Mathlib.Omega.{arith}
-use borrow.Author.Tests.{eq-eqb, ne_eqb, leb-false}
+use borrow.Author.Tests.{eq-eqb, ne_eqb}
 use borrow.Rule.Slice.PartMut.{put_mid}
-use lib.Dec.{eqb, leb}
+use lib.Dec.{eqb}
 use lib.ListN.{length, take, drop}
 use Rattle.octets.specs.Maybe.{is_some}
 use Rattle.protocol.specs.Bytes.{Bytes}
@@ -22,7 +22,7 @@ use Rattle.protocol.specs.Compound.{walk}
 use Rattle.protocol.specs.Refusals.{other_session, bad_tag}
 use Rattle.protocol.specs.Ciphers.{cipher_of}
 use Rattle.protocol.specs.Transform.{plaintext_under, opened_to}
-use Rattle.protocol.specs.Calls.{sent_by, opening_under, only_message, key_tests, message_tests, header_tests, text_tests, tests, effect, answer}
+use Rattle.protocol.specs.Calls.{sent_by, opening_under, only_message, key_tests, message_tests, header_tests, text_tests, tests, effect}
 use Rattle.protocol.specs.Contract.{Makes}
 use Rattle.protocol.specs.Suite.{suite, ciphers}
 use Rattle.protocol.proofs.AnswerLaws.{when_done_lem, when_refused, when_part, after_nothing}
@@ -35,8 +35,9 @@ use Rattle.answer.specs.declared.refusal.Refusal.{Refusal}
 use Rattle.answer.specs.Reading.{number_of, number_in}
 use Rattle.answer.proofs.Results.{passed, refuses_with, stays, goes_on}
 use Rattle.transform_header.specs.declared.TransformHeader as code
-use Rattle.transform_header.specs.Reading.{header_from}
+use Rattle.transform_header.specs.Reading.{header_from, header_in}
 use Rattle.transform.specs.Steps.{opening_lines, Opens, Deciphered, size_then_walk, deciphered, OpensBody, OpensMessage}
+use Rattle.transform.proofs.Chained.{lines-chained}
 use Rattle.transform.proofs.Inner.{lent, back, when_inner}
 
 module _ (h : TransformHeader) (e : Envelope) (n : ℕ) (text : Bytes) where
@@ -114,8 +115,12 @@ module _ (c : Connection) (key : Bytes) (id : ℕ) (m : Bytes) where
   abbrev lines : List Test
   lines = opening_lines c key id m
 
+  -- the number that the lines say is that of the chain
+  pub opens-as : (r : Result code.TransformHeader Refusal) → number_in r ≡ first_of lines → IfOk r (λ h. header_from h ≡ header_of m) → Opens c key id m r
+  opens-as r e h = record { number = e; chained = e ∙ sym (lines-chained c key id m (header_in m) _ _ _ _ refl refl refl refl refl); header = h }
+
   pub opens-not : (why : Refusal) → number_of why ≡ first_of lines → Opens c key id m (Err why)
-  opens-not why e = record { number = e; header = tt }
+  opens-not why e = opens-as (Err why) e tt
 
   -- r is what the lines say
   module _ (r : Result code.TransformHeader Refusal) (o : Opens c key id m r) where

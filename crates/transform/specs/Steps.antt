@@ -5,7 +5,7 @@ use Rattle.std.specs.Result.{IfOk}
 use Rattle.std.proofs.Math.Option.{Option, get_or}
 use Rattle.octets.specs.Maybe.{is_some}
 use Rattle.protocol.specs.Bytes.{Bytes}
-use Rattle.protocol.specs.Answer.{Answer, when_done, Test, first_of, judge}
+use Rattle.protocol.specs.Answer.{Answer, when_done, Test, first_else, first_of, judge}
 use Rattle.protocol.specs.Connection.{Connection, longest_message}
 use Rattle.protocol.specs.TransformHeader.{TransformHeader, header_of, session_id_of}
 use Rattle.protocol.specs.InnerHeader.{Envelope}
@@ -18,7 +18,7 @@ use Rattle.protocol.specs.Suite.{ciphers}
 use Rattle.answer.specs.declared.refusal.Refusal.{Refusal}
 use Rattle.answer.specs.Reading.{number_in}
 use Rattle.transform_header.specs.declared.TransformHeader as code
-use Rattle.transform_header.specs.Reading.{header_from}
+use Rattle.transform_header.specs.Reading.{header_from, header_in}
 
 -- ---- the ciphers by number, with the cipher x
 
@@ -39,9 +39,17 @@ abbrev pub opening_lines : Connection → Bytes → ℕ → Bytes → List Test
 opening_lines c key id m =
     key_tests c key ++ (message_tests c m ++ (header_tests c (header_of m) ++ (other_session (eqb (session_id_of m) id) ∷ [])))
 
+-- the same as one chain with no guard, over a header that is all zeros where the message is too short for one
+abbrev pub opening_chain : Connection → Bytes → ℕ → Bytes → ℕ
+opening_chain c key id m =
+    let h = header_in m in
+    let line6 = first_of (other_session (eqb h.session_id id) ∷ []) in
+    first_else (key_tests c key) (first_else (message_tests c m) (first_else (header_tests c h) line6))
+
 -- what passes them has this header
 pub record Opens (c : Connection) (key : Bytes) (id : ℕ) (m : Bytes) (r : Result code.TransformHeader Refusal) : Type 0 where
   pub number : number_in r ≡ first_of (opening_lines c key id m)
+  pub chained : number_in r ≡ opening_chain c key id m
   pub header : IfOk r (λ h. header_from h ≡ header_of m)
 
 -- lengths that 2 and 3 let pass

@@ -1,17 +1,7 @@
+-- Right because a key of 32 bytes is two round keys, and any other has 16 bytes and is one.
 use native.Mathlib.Omega.{arith}
-use Rattle.aes_key_expansion.proofs.Expanding.{start, turn, finish, within}
+use Rattle.aes_key_expansion.proofs.KeyLengths.{of_sizes}
 use Rattle.aes_key_expansion.proofs.expand.Goals as goal
 
-pub loop-r-init : goal.loop-r-init
-loop-r-init c = start c.args.key.now _ c.requires c.own_keys-keys.ensures.short c.own_keys-keys.ensures.long
-
-pub round_key-requires : goal.round_key-requires
-round_key-requires c = (c.loop-r.invariant.is_own, omega arith, omega arith)
-
-pub loop-r-preserved : goal.loop-r-preserved
-loop-r-preserved c =
-    let x = c.loop-r.invariant in
-    turn _ x (omega arith) (within x (omega arith)) c.round_key.ensures
-
-pub returns : goal.returns
-returns c = finish c.loop-r.invariant (omega arith)
+pub expand_by-requires-2-clause-own : goal.expand_by-requires-2-clause-own
+expand_by-requires-2-clause-own c = of_sizes _ c.requires (λ e. omega arith) (λ e. omega arith)

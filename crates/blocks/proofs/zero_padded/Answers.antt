@@ -6,6 +6,6 @@ use Rattle.blocks.proofs.zero_padded.Goals as goal
 
 pub returns : goal.returns
 returns g c =
-    let n = c.min-n.result in
+    let n = c.at_most-n.result in
     ap (λ (l : List ℕ). l ++ drop n (replicate g.row.N 0)) (search rules)
-    ∙ zeros_replaced g.row.N c.args.s.now n c.min-n.ensures
+    ∙ zeros_replaced g.row.N c.args.s.now n c.at_most-n.ensures

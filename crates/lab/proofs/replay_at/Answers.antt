@@ -33,5 +33,5 @@ returns-in-Ok-Some c =
     let w = was e f a.at _ _ _ _ _ t in
     let done = c.step-number in
     let m' = done.new.payload in
-    stepped (read_at e f a.at) a.lab f a.at _ _ _ _ _ t c.if-record-le-HELD.true m' _ _ _ (lent-steps e f a.at _ _ _ _ w _ m' _ _ _ done.ensures)
+    stepped (read_at e f a.at) a.lab f a.at _ _ _ _ _ t c.if-record-le-HELD.true m' _ _ _ (lent-steps e f a.at _ _ _ _ w _ m' _ _ _ done.ensures.steps)
     (lent_back e f a.at _ _ _ _ w m')

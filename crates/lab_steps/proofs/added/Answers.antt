@@ -12,11 +12,11 @@ use Rattle.lab_rules.specs.Steps.{State, joined}
 use Rattle.lab_state.specs.Reading.{state_of}
 use Rattle.lab_steps.proofs.added.Goals as goal
 
-pub returns-then-payload-lt24 : goal.returns-then-payload-lt24
-returns-then-payload-lt24 c = λ h. absurd (omega arith)
+pub returns-then-payload-lt24-clause-joins : goal.returns-then-payload-lt24-clause-joins
+returns-then-payload-lt24-clause-joins c = λ h. absurd (omega arith)
 
-pub returns : goal.returns
-returns c = λ h.
+pub returns-clause-joins : goal.returns-clause-joins
+returns-clause-joins c = λ h.
     let a = c.args in
     let s = state_of a.lab.now in
     let m = a.payload.now in

@@ -1,6 +1,5 @@
 -- Right because the record is that of the id, and its counter goes up by one where the answer is done (TableCalls).
 -- Assumes nothing.
-use mathlib.Core.Bool.{true}
 use mathlib.Core.Path.{refl, sym, ap, subst, ◌∙◌}
 use Prim.Native.Nat.{ℕ, ◌<◌, ◌^◌}
 use native.Mathlib.Omega.{arith}
@@ -12,9 +11,8 @@ use Rattle.answer.specs.Reading.{answer_of}
 use Rattle.connection.specs.Reading.{connection_of}
 use Rattle.session_record.specs.declared.Session.{Session}
 use Rattle.session_record.specs.Clauses.{SealsWith}
-use Rattle.session_record.specs.Reading.{free, is_wanted, session_of, stepped}
+use Rattle.session_record.specs.Reading.{free, session_of, stepped}
 use Rattle.session_table.specs.Place.{place_in}
-use Rattle.session_table.proofs.PlaceLaws.{place_is}
 use Rattle.session_table.proofs.StepLaws.{step-none}
 use Rattle.session_table.proofs.TableLink.{keeps}
 use Rattle.session_table.proofs.TableCalls.{sealed_says}
@@ -28,7 +26,7 @@ returns-in_err-headers c =
     let k = connection_of a.c in
     let s = c.record-s.result in
     let i = place_in t c.find-place.result in
-    let at = ap (place_in t) c.find-place.ensures.first ∙ place_is (is_wanted true a.id) t in
+    let at = c.find-place.ensures.place in
     let fits : s.counter < 2 ^ 64 = search rules in
     let told = subst (λ r. SealsWith (session_of s) k a.id m c.seal_record.new.message (answer_of r)) c.in_err-headers.was c.seal_record.ensures in
     let same = sym (ap (set t i) (step-none s ∙ c.record-s.ensures) ∙ keeps t i) in
@@ -44,7 +42,7 @@ returns-in-Some c =
     let k = connection_of a.c in
     let s = c.record-s.result in
     let i = place_in t c.find-place.result in
-    let at = ap (place_in t) c.find-place.ensures.first ∙ place_is (is_wanted true a.id) t in
+    let at = c.find-place.ensures.place in
     let fits : s.counter < 2 ^ 64 = search rules in
     let told = subst (λ r. SealsWith (session_of s) k a.id m c.seal_record.new.message (answer_of r)) c.in_ok-headers.was c.seal_record.ensures in
     let put =
@@ -61,7 +59,7 @@ returns-in_default c =
     let k = connection_of a.c in
     let s = c.record-s.result in
     let i = place_in t c.find-place.result in
-    let at = ap (place_in t) c.find-place.ensures.first ∙ place_is (is_wanted true a.id) t in
+    let at = c.find-place.ensures.place in
     let fits : s.counter < 2 ^ 64 = search rules in
     let told = subst (λ r. SealsWith (session_of s) k a.id m c.seal_record.new.message (answer_of r)) c.in_ok-headers.was c.seal_record.ensures in
     let past =

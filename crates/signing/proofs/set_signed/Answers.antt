@@ -10,9 +10,9 @@ use Rattle.protocol.specs.Signing.{with_signed_flag}
 use Rattle.protocol.proofs.SignedBytes.{flagged_is}
 use Rattle.signing.proofs.set_signed.Goals as goal
 
-pub returns : goal.returns
+pub returns-clause-header : goal.returns-clause-header
 unfolding with_signed_flag
-returns c =
+returns-clause-header c long =
     let flags = c.to_bytes-flags in
     let read = c.number_at in
     let m = c.args.m.now in

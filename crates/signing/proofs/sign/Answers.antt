@@ -14,11 +14,6 @@ returns-in_err-sign_tests c =
     let no = left_alone a.key.now a.message.now _ says (refusal_number _) in
     search (rules, no)
 
-pub set_signed-requires : goal.set_signed-requires
-set_signed-requires c =
-    let a = c.args in
-    (passed a.key.now a.message.now 0 (ok_says _ _ c.sign_tests.ensures _ c.in_ok-sign_tests.was) refl).long
-
 pub signature-stored-requires : goal.signature-stored-requires
 signature-stored-requires c =
     let a = c.args in
@@ -36,5 +31,6 @@ returns c =
     let stored = c.signature-stored in
     let flagged = c.set_signed in
     let a = c.args in
-    signed a.key.now a.message.now 0 (ok_says _ _ c.sign_tests.ensures _ c.in_ok-sign_tests.was) _ stored.result _ refl flagged.ensures
+    let l = (passed a.key.now a.message.now 0 (ok_says _ _ c.sign_tests.ensures _ c.in_ok-sign_tests.was) refl).long in
+    signed a.key.now a.message.now 0 (ok_says _ _ c.sign_tests.ensures _ c.in_ok-sign_tests.was) _ stored.result _ refl (flagged.ensures.header l)
     stored.ensures stored.type_inv.1.0.1 c.copy.ensures

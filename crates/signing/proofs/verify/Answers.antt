@@ -16,17 +16,13 @@ returns-in_err-sign_tests c =
     let no = refused-first a.key.now a.message.now _ says (refusal_number _) in
     search (rules, no)
 
-pub is_signed-requires : goal.is_signed-requires
-is_signed-requires c =
-    let a = c.args in
-    (passed a.key.now a.message.now 0 (ok_says _ _ c.sign_tests.ensures _ c.in_ok-sign_tests.was) refl).long
-
 pub returns-in_err-refuse : goal.returns-in_err-refuse
 returns-in_err-refuse c =
     let a = c.args in
     let told = applies _ _ _ c.refuse.ensures _ c.in_err-refuse.was in
+    let l = (passed a.key.now a.message.now 0 (ok_says _ _ c.sign_tests.ensures _ c.in_ok-sign_tests.was) refl).long in
     let no = not_signed_lem a.key.now a.message.now 0 (ok_says _ _ c.sign_tests.ensures _ c.in_ok-sign_tests.was) refl
-    (sym c.is_signed.ensures ∙ not-true _ told.0) in
+    (sym (c.is_signed.ensures.header l) ∙ not-true _ told.0) in
     let p = err_from_is_err_and c.from_residual-in_err-refuse.result c.from_residual-in_err-refuse.ensures.1 in
     rw (p.1, p.2, told.1) no
 
@@ -45,7 +41,8 @@ signature-requires c =
 pub returns : goal.returns
 returns c =
     let a = c.args in
+    let l = (passed a.key.now a.message.now 0 (ok_says _ _ c.sign_tests.ensures _ c.in_ok-sign_tests.was) refl).long in
     let yes = not-false _ (applies-not _ _ _ c.refuse.ensures _ c.in_ok-refuse.was) in
     compared a.key.now a.message.now 0 (ok_says _ _ c.sign_tests.ensures _ c.in_ok-sign_tests.was) _ _ _ _ refl
-    (sym c.is_signed.ensures ∙ yes)
+    (sym (c.is_signed.ensures.header l) ∙ yes)
     c.bytes_at.ensures c.signature.ensures c.same_16-right.ensures (test_says _ _ _ c.refuse-2.ensures)

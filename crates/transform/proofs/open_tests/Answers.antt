@@ -6,7 +6,7 @@ use Rattle.connection.specs.Reading.{connection_of}
 use Rattle.protocol.specs.TransformHeader.{header_of}
 use Rattle.transform_header.specs.Reading.{header_from}
 use Rattle.answer.proofs.Results.{err_says, ok_says, test_says}
-use Rattle.transform.proofs.Opening.{opens-not, key_refuses, front_refuses, all_say}
+use Rattle.transform.proofs.Opening.{opens-as, opens-not, key_refuses, front_refuses, all_say}
 use Rattle.transform.proofs.open_tests.Goals as goal
 
 pub returns-in_err-key_tests : goal.returns-in_err-key_tests
@@ -43,4 +43,4 @@ returns c =
     let eh = IfOk-at_ok (λ h. header_from h ≡ header_of m) c.in_ok-h.was c.opening_tests.ensures.header in
     let all = all_say k a.key.now a.id m _ c.key_tests.ensures _ c.in_ok-key_tests.was _ c.opening_tests.ensures.number _ c.in_ok-h.was eh
     _ (test_says _ _ _ c.refuse.ensures) in
-    record { number = ok_says _ _ all _ c.in_ok-refuse.was; header = eh }
+    opens-as k a.key.now a.id m _ (ok_says _ _ all _ c.in_ok-refuse.was) eh

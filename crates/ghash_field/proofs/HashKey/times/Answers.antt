@@ -31,8 +31,8 @@ loop-k-preserved c =
     let n = c.loop-k._k in
     let h = subkey c.self.inside.products in (
       summed_turn n x.hi x.lo h (wide_of c.loop-k.w) _ _ _ _ c.loop-k-test.true
-          (looked-up n x.hi h c.self.invariant i.2)
-          (looked-up n x.lo h c.self.invariant i.3)
+          (looked-up n x.hi h c.self.invariant.0 i.2)
+          (looked-up n x.lo h c.self.invariant.0 i.3)
           c.added-sum.ensures.0 c.shifted-w.ensures.0 i.0,
       room_turn n c.loop-k.w.w3 _ _ c.added-sum.ensures.1 i.1 c.shifted-w.ensures.1,
       rest_turn n x.hi c.loop-k.p i.2,

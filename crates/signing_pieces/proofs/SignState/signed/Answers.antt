@@ -1,8 +1,7 @@
 -- Right because a refusal comes before a byte is written, and else the signature fills its place.
 -- Assumes nothing.
-use mathlib.Core.Path.{ap, ◌∙◌}
+use mathlib.Core.Path.{◌∙◌}
 use native.Mathlib.Omega.{arith}
-use borrow.Author.Tests.{not-false, eqb-true}
 use Rattle.std.proofs.lemmas.Result.{err_from_is_err_and}
 use Rattle.answer.proofs.Results.{refusal_number, err_says, ok_says, applies, applies-not}
 use Rattle.signing_pieces.proofs.CodeLaws.{place_bad, number_is, place_stays, place_filled}

@@ -1,0 +1,19 @@
+-- Right because the place that the library finds is the place of the rules (PlaceLaws).
+-- Assumes nothing.
+use Rattle.std.proofs.Common.{rules, tests}
+use mathlib.Core.Path.{◌≡◌, ap, ◌∙◌}
+use mathlib.Core.Bool.{true}
+use Rattle.std.specs.Prelude.{position}
+use Rattle.std.proofs.lemmas.Iterator.{YieldsList-from_slice}
+use Rattle.std.proofs.lemmas.Iterator.Search.{position_from_yields_List}
+use Rattle.session_record.specs.Reading.{is_wanted}
+use Rattle.session_table.specs.Place.{place_in}
+use Rattle.session_table.proofs.PlaceLaws.{place_is}
+use Rattle.session_table.proofs.find.Goals as goal
+
+pub returns-clause-place : goal.returns-clause-place
+returns-clause-place c =
+    let t = c.args.table.now in
+    let found : c.position.result ≡ position (is_wanted true c.args.id) t =
+    position_from_yields_List (is_wanted true c.args.id) _ _ c.position.result c.position.ensures.ran (YieldsList-from_slice t cc) (λ x b q k. search (rules, tests)) in
+    ap (place_in t) found ∙ place_is (is_wanted true c.args.id) t
