@@ -39,20 +39,27 @@ number_of DirtyNonce = 29
 number_of OtherKeySize = 35
 number_of BadLength = 40
 
--- a result as the number that a caller gets: 0 where nothing was refused
+-- a result as the number that a caller gets, where number reads a reason to refuse: 0 where nothing was refused
+abbrev pub number_by : {T E : Type 0} → (E → ℕ) → Result T E → ℕ
+number_by number (Ok x) = 0
+number_by number (Err why) = number why
+
+-- by the table of numbers
 abbrev pub number_in : {T : Type 0} → Result T Refusal → ℕ
-number_in (Ok x) = 0
-number_in (Err why) = number_of why
+number_in r = number_by number_of r
+
+-- a result as an answer of the rules, where value reads what a done answer carries and number a reason to refuse
+abbrev pub answer_by : {T E : Type 0} → (T → ℕ) → (E → ℕ) → Result T E → rules.Answer
+answer_by value number (Ok x) = rules.done (value x)
+answer_by value number (Err why) = rules.refused (number why)
 
 -- a result: done with what it carries, or refused with its number
 abbrev pub answer_of : Result ℕ Refusal → rules.Answer
-answer_of (Ok n) = rules.done n
-answer_of (Err why) = rules.refused (number_of why)
+answer_of r = answer_by (λ n. n) number_of r
 
 -- the same of a fold, whose done answer says whether the message was folded in
 abbrev pub fold_answer_of : Result Bool Refusal → rules.Answer
-fold_answer_of (Ok b) = rules.done (cond b 1 0)
-fold_answer_of (Err why) = rules.refused (number_of why)
+fold_answer_of r = answer_by (λ b. cond b 1 0) number_of r
 
 -- what the place for a mark holds afterwards, where it held h: whether what a done answer carries is not 0, as 1 or 0
 abbrev pub marked : rules.Answer → ℕ → ℕ
