@@ -8,7 +8,7 @@ mod new;
 ghost use Rattle.std.specs.Prelude.{◌≡◌, true, false, length};
 ghost use Rattle.protocol.specs.SessionTable.{sealing_key, opening_key};
 ghost use Rattle.dialects.specs.Reading.{wide_in};
-ghost use Rattle.connection.specs.Reading.{flag, role_in};
+ghost use Rattle.connection.specs.Reading.{flag, role_in, role_of};
 ghost use Rattle.session_record.specs.Reading.{free, is_wanted, key_bytes, session_of, stepped};
 ghost use Rattle.session_record.specs.Clauses.{named_id};
 ghost use Rattle.session_record.specs.Adds.{adding_for};
@@ -106,6 +106,22 @@ impl Session {
     {
         self.sealing_key(role.other())
     }
+}
+
+// The key to seal with, of the role that a number stands for: any but a client's is a server's.
+pub fn sealing_key(s: &Session, role: u8) -> &[u8]
+    ensures key { result.now ≡ sealing_key (role_of role) (session_of s.now).keys }
+    ensures size { length result.now ≡ key_bytes s.now }
+{
+    s.sealing_key(Role::from(role))
+}
+
+// And the key to open with.
+pub fn opening_key(s: &Session, role: u8) -> &[u8]
+    ensures key { result.now ≡ opening_key (role_of role) (session_of s.now).keys }
+    ensures size { length result.now ≡ key_bytes s.now }
+{
+    s.opening_key(Role::from(role))
 }
 
 // What adding takes beside the key material and the chain value.
